@@ -1,15 +1,13 @@
 -- Commands of one kind are lawful.
-use Rattle.std.proofs.Common.{◌≡◌, ◌∙◌, ℕ, zero, suc, ◌+◌, ◌*◌, ◌≤◌, ◌<◌, Bool, true, false, cond, Option, Some, None, option_map, List, find, length, refl, sym, ap, arith, ⊎_elim}
-use Rattle.std.proofs.lemmas.Bool.{cases_Bool, cases_lt}
-use Rattle.std.specs.List.{range_with_len}
+use Rattle.std.proofs.Common.{◌≡◌, ◌∙◌, ℕ, ◌*◌, ◌≤◌, Bool, true, Option, Some, None, option_map, List, length, refl, sym, ap, arith}
 use Rattle.grib_base.specs.declared.limits.TheConstants.{MOST_OCTETS}
 use Rattle.grib_base.specs.declared.profile.Profile.{Profile}
 use Rattle.grib_base.specs.declared.profile.Profile.TheVariants.{Open}
 use Rattle.grib2_message.specs.Message.{IsAnyMessage, IsReadable, IsFirstOpaque, first_opaque}
 use Rattle.grib2_message.specs.declared.readable.OpaqueField.{OpaqueField}
 use Rattle.grib_packing.specs.Packing.{packing_template}
-use Rattle.grib_packing.specs.Entries.{is_opaque_packing}
-use Rattle.grib2_message.specs.Fields.{field_count, part_octets}
+use Rattle.grib2_message.specs.Fields.{part_octets}
+use Rattle.grib2_message.proofs.FirstOpaque.{none_opaque}
 use Rattle.grib2_message.proofs.Parted.{message_least}
 use Rattle.grib_stream.specs.declared.place.Place.{Place}
 use Rattle.grib_stream.specs.declared.outcome.Outcome.{Outcome}
@@ -93,23 +91,7 @@ unless_lawful cause octets few =
 
 -- ---- what reads the values of messages
 
--- what is sought from i on and not found holds of none
-not_found : (p : ℕ → Bool) (n i : ℕ) → find p (range_with_len i n) ≡ None → (j : ℕ) → i ≤ j → j < i + n → p j ≡ false
-not_found p zero i is j low high = absurd (omega arith)
-not_found p (suc n) i is j low high =
-    ⊎_elim
-    (λ (there : p i ≡ true). let no : ⊥ = cc in absurd no)
-    (λ (none : p i ≡ false).
-    let later : find p (range_with_len (i + 1) n) ≡ None = sym (ap (λ b. cond b (Some i) (find p (range_with_len (i + 1) n))) none) ∙ is in
-    ⊎_elim (λ (more : i < j). not_found p n (i + 1) later j (omega arith) (omega arith)) (λ (here : j ≤ i). (let e : j ≡ i = omega arith in ap p e ∙ none)) (cases_lt i j))
-    (cases_Bool (p i))
-
--- a message without a field of an opaque packing can be read
-pub none_opaque : (message : List ℕ) → first_opaque message ≡ None → IsReadable message
-none_opaque message is i low high =
-    not_found (λ i. is_opaque_packing (part_octets message i 5)) (field_count message) 1 is i low (omega arith)
-
--- and gives what it gives where values are read
+-- a message that can be read gives what it gives where values are read
 pub given_read : (second : Place → List ℕ → Given) (place : Place) (message : List ℕ) → first_opaque message ≡ None → of_values second place message ≡ second place message
 given_read second place message is = ap (λ o. given_readable o message place (λ _. second place message)) is
 

@@ -146,10 +146,11 @@ fn coordinates_of(
     requires stated { is_opaque_product (part_octets message.now field 4) ≡ false }
     ensures { IfOk result (λ words. words ≡ coordinate_list (part_octets message.now field 4)) }
 {
-    let Some(product) = message.message().product(alloc, field)? else {
+    let product = message.message().product(alloc, field)?;
+    let Some(found) = product else {
         unreachable!();
     };
-    Ok(product.coordinates)
+    Ok(found.coordinates)
 }
 
 /// Octet 4 and further of Section 2, with these vertical coordinates and this list of rows.

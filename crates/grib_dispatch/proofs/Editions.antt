@@ -7,7 +7,8 @@ use Rattle.grib_base.specs.declared.fault.ReadFault.{ReadFault}
 use Rattle.grib_base.specs.declared.fault.ReadFault.TheVariants.{Refused, Memory}
 use Rattle.grib2_sections.specs.Refused.{IsVerdict}
 use Rattle.grib1_sections.specs.Acceptance.{verdict_1}
-use Rattle.grib2_message.specs.Acceptance.{verdict_2}
+use Rattle.grib2_message.specs.Acceptance.{verdict_under}
+use Rattle.grib_base.specs.declared.profile.Profile.{Profile}
 use Rattle.std.proofs.lemmas.Bool.{false≢true}
 use Rattle.grib_base.specs.Rows.{choose}
 use Rattle.grib2_sections.specs.Head.{edition}
@@ -48,30 +49,30 @@ fields_second held message is second =
 
 -- ---- what was not read
 
-first_unread : (octets : List ℕ) (fault : ReadFault) → edition octets ≡ 1 → IsVerdict (verdict_1 octets) fault → IsUnread octets fault
-first_unread octets (Refused fault) first known =
-    ap (λ e. choose (e == 1) (λ _. judged (verdict_1 octets)) (λ _. judged (verdict_2 octets))) first ∙ ap judged known
-first_unread octets Memory first known = tt
+first_unread : (profile : Profile) (octets : List ℕ) (fault : ReadFault) → edition octets ≡ 1 → IsVerdict (verdict_1 octets) fault → IsUnread profile octets fault
+first_unread profile octets (Refused fault) first known =
+    ap (λ e. choose (e == 1) (λ _. judged (verdict_1 octets)) (λ _. judged (verdict_under profile octets))) first ∙ ap judged known
+first_unread profile octets Memory first known = tt
 
-second_unread : (octets : List ℕ) (fault : ReadFault) → edition octets ≡ 2 → IsVerdict (verdict_2 octets) fault → IsUnread octets fault
-second_unread octets (Refused fault) second known =
-    ap (λ e. choose (e == 1) (λ _. judged (verdict_1 octets)) (λ _. judged (verdict_2 octets))) second ∙ ap judged known
-second_unread octets Memory second known = tt
+second_unread : (profile : Profile) (octets : List ℕ) (fault : ReadFault) → edition octets ≡ 2 → IsVerdict (verdict_under profile octets) fault → IsUnread profile octets fault
+second_unread profile octets (Refused fault) second known =
+    ap (λ e. choose (e == 1) (λ _. judged (verdict_1 octets)) (λ _. judged (verdict_under profile octets))) second ∙ ap judged known
+second_unread profile octets Memory second known = tt
 
 -- a fault that `?` passes on
-module _ {A : Type 0} (P : A → Type 0) (octets : List ℕ) where
-  passed : (result : Result A ReadFault) (fault : ReadFault) → IsErrAnd result (λ read. read ≡ fault) → IsUnread octets fault
-      → MatchResult result P (IsUnread octets)
+module _ {A : Type 0} (profile : Profile) (P : A → Type 0) (octets : List ℕ) where
+  passed : (result : Result A ReadFault) (fault : ReadFault) → IsErrAnd result (λ read. read ≡ fault) → IsUnread profile octets fault
+      → MatchResult result P (IsUnread profile octets)
   passed (Ok value) fault is unread = absurd is
-  passed (Err read) fault is unread = subst (IsUnread octets) (sym is) unread
+  passed (Err read) fault is unread = subst (IsUnread profile octets) (sym is) unread
 
   pub passed_first : (result : Result A ReadFault) (fault : ReadFault) → edition octets ≡ 1 → IsErrAnd result (λ read. read ≡ fault) → IsVerdict (verdict_1 octets) fault
-      → MatchResult result P (IsUnread octets)
-  passed_first result fault first is known = passed result fault is (first_unread octets fault first known)
+      → MatchResult result P (IsUnread profile octets)
+  passed_first result fault first is known = passed result fault is (first_unread profile octets fault first known)
 
-  pub passed_second : (result : Result A ReadFault) (fault : ReadFault) → edition octets ≡ 2 → IsErrAnd result (λ read. read ≡ fault) → IsVerdict (verdict_2 octets) fault
-      → MatchResult result P (IsUnread octets)
-  passed_second result fault second is known = passed result fault is (second_unread octets fault second known)
+  pub passed_second : (result : Result A ReadFault) (fault : ReadFault) → edition octets ≡ 2 → IsErrAnd result (λ read. read ≡ fault) → IsVerdict (verdict_under profile octets) fault
+      → MatchResult result P (IsUnread profile octets)
+  passed_second result fault second is known = passed result fault is (second_unread profile octets fault second known)
 
 -- ---- what comes next
 
@@ -79,7 +80,7 @@ acts_same : (given : Given) (total fields : ℕ) → acts_of (next_given given t
 acts_same (Gives acts written) total fields = refl
 acts_same (Ends outcome) total fields = refl
 
-acts_next : (command : Command) (place : Place) (octets : List ℕ) (held : Held) → Holds octets held
+acts_next : (command : Command) (place : Place) (octets : List ℕ) (held : Held) → Holds command.profile octets held
     → acts_of (next_of (task command) place octets) ≡ acts_given (given command place (held_octets held))
 acts_next command place octets held holds =
     let n = length (held_octets held) in
@@ -94,7 +95,7 @@ ends_unread next outcome a cut = record {
 }
 
 -- a front of what a message gives was done, and then the run ended
-pub ends_within : (command : Command) (place : Place) (octets : List ℕ) (held : Held) (outcome : Outcome) (a b : World) → is_cut_within outcome ≡ true → Holds octets held
+pub ends_within : (command : Command) (place : Place) (octets : List ℕ) (held : Held) (outcome : Outcome) (a b : World) → is_cut_within outcome ≡ true → Holds command.profile octets held
     → DidFront a b (acts_given (given command place (held_octets held))) → EndsWith (next_of (task command) place octets) outcome a b
 ends_within command place octets held outcome a b cut holds front = record {
   stopped = λ whole. absurd (false≢true (sym whole ∙ cut));

@@ -9,12 +9,13 @@ use Rattle.std.specs.Str.{bytes_eq}
 use Rattle.std.specs.declared.option.Option.{Option}
 use Rattle.grib_base.specs.declared.fault.Fault.{Fault}
 use Rattle.grib_base.specs.declared.fault.Refusal.{Refusal}
+use Rattle.grib_base.specs.declared.profile.Profile.{Profile}
 use Rattle.grib_base.specs.Rows.{choose}
 use Rattle.grib2_sections.specs.Head.{indicator, edition}
 use Rattle.grib_base.specs.declared.fault.Reason.{Reason}
 use Rattle.grib_base.specs.declared.fault.Reason.TheVariants.{Edition, Truncated}
 use Rattle.grib2_sections.specs.Verdict.{Verdict, Accepted, Refused}
-use Rattle.grib2_message.specs.Acceptance.{verdict_2}
+use Rattle.grib2_message.specs.Acceptance.{verdict_under}
 use Rattle.grib2_message.specs.Fields.{field_count}
 use Rattle.grib_stream.specs.declared.outcome.Outcome.{Outcome}
 use Rattle.grib_stream.specs.declared.outcome.Outcome.TheVariants as outcomes
@@ -30,9 +31,9 @@ use Rattle.grib_stream.proofs.Nexts.{judged as next_judged_as}
 use Rattle.grib_command.specs.declared.answered.Answered.{Answered}
 use Rattle.grib_command.specs.declared.answered.Answered.TheVariants.{Whole, Kept, WriteFault, ShelfFault, Memory}
 use Rattle.grib_command.specs.Answering.{Answers, acts_given}
-use Rattle.grib_command.specs.Command.{Command, task, given, printing}
-use Rattle.grib_command.specs.Judging.{judge, judged, fields_of}
-use Rattle.grib_dispatch.specs.Hearing.{heard_of, judge_2, is_second, hears_by, IsRefusedSoon, RefusesInTime}
+use Rattle.grib_command.specs.Command.{Command, under, task, given, printing}
+use Rattle.grib_command.specs.Judging.{judge_under, judged, fields_of}
+use Rattle.grib_dispatch.specs.Hearing.{heard_of, judge_2_under, is_second, hears_by, IsRefusedSoon, RefusesInTime}
 use Rattle.grib_dispatch.specs.HearingLaws.{not_one, both}
 use Rattle.grib_dispatch.specs.Lawful.{short_edition, same_edition, short_verdict, message_of, other}
 use Rattle.grib_command.specs.declared.ending.Ending.{Ending}
@@ -62,7 +63,7 @@ performs_given ShelfFault place given total fields a b front = cut_heard place o
 performs_given Memory place given total fields a b front = cut_heard place outcomes.Memory given total fields a b refl front
 
 -- what comes next of a message of edition 2 and no more
-next_heard : (command : Command) (place : Place) (octets : List ℕ) → (edition octets == 1) ≡ false → judge octets ≡ Message (length octets)
+next_heard : (command : Command) (place : Place) (octets : List ℕ) → (edition octets == 1) ≡ false → judge_under command.profile octets ≡ Message (length octets)
     → next_of (task command) place octets ≡ next_given (command.second place octets) (length octets) (field_count octets)
 next_heard command place octets second is =
     next_judged_as (task command) place octets (Message (length octets)) is
@@ -70,7 +71,7 @@ next_heard command place octets second is =
     ∙ (ap (λ b. next_given (choose b (λ _. command.first place octets) (λ _. command.second place octets)) (length octets) (choose b (λ _. 1) (λ _. field_count octets))) second))
 
 pub performs_heard : (command : Command) (place : Place) (octets more : List ℕ) (answered : Answered) (total fields : ℕ) (a b : World) → is_second (take 8 (octets ++ more)) ≡ true
-    → judge octets ≡ Message (length octets) → total ≡ length octets → fields ≡ field_count octets
+    → judge_under command.profile octets ≡ Message (length octets) → total ≡ length octets → fields ≡ field_count octets
     → Answers answered place.message (command.second place octets) a b
     → Performs (next_of (task command) place octets) (performed_of (heard_of answered place total fields)) a b
 performs_heard command place octets more answered total fields a b second is size count answers =
@@ -82,22 +83,22 @@ performs_heard command place octets more answered total fields a b second is siz
 -- ---- how soon a message is refused
 
 -- fewer octets than eight are refused for their end alone
-short_open : (octets : List ℕ) → length octets < 8 → is_closed (judge octets) ≡ false
-short_open octets short =
+short_open : (profile : Profile) (octets : List ℕ) → length octets < 8 → is_closed (judge_under profile octets) ≡ false
+short_open profile octets short =
     let none : (edition octets == 1) ≡ false = ap (λ n. n == 1) (short_edition octets short) in
-    ap is_closed (other octets none ∙ ap judged (short_verdict octets short))
+    ap is_closed (other profile octets none ∙ ap judged (short_verdict profile octets short))
 
 -- an edition that is neither 1 nor 2 is refused by the first eight octets
-edition_refused : (octets : List ℕ) → (nat_lt (length octets) 8) ≡ false → (edition octets == 1) ≡ false → (edition octets == 2) ≡ false
-    → verdict_2 octets ≡ Refused (record { octet = 8; reason = Edition; detail = edition octets })
-edition_refused octets long not_first not_second = rw (long, not_first, not_second) refl
+edition_refused : (profile : Profile) (octets : List ℕ) → (nat_lt (length octets) 8) ≡ false → (edition octets == 1) ≡ false → (edition octets == 2) ≡ false
+    → verdict_under profile octets ≡ Refused (record { octet = 8; reason = Edition; detail = edition octets })
+edition_refused profile octets long not_first not_second = rw (long, not_first, not_second) refl
 
 other_number : (a b : ℕ) → a ≢ b → (a == b) ≡ false
 other_number a b other = ⊎_elim (λ yes. absurd (other (eqb-true a b yes))) (λ no. no) (cases_Bool (a == b))
 
 -- the first eight octets of a message that is not of edition 1 say that it is heard, or refuse it
-prompt : (rest : List ℕ) → begins rest ≡ true → edition rest ≢ 1 → 8 ≤ length rest → IsPrompt is_second judge rest
-prompt rest begun not_first long =
+prompt : (profile : Profile) (rest : List ℕ) → begins rest ≡ true → edition rest ≢ 1 → 8 ≤ length rest → IsPrompt is_second (judge_under profile) rest
+prompt profile rest begun not_first long =
     let size : length (take 8 rest) ≡ 8 = length-take-le 8 rest long in
     let same : edition (take 8 rest) ≡ edition rest =
     sym (same_edition (take 8 rest) (drop 8 rest) (omega (arith, size))) ∙ ap edition (take-append-drop 8 rest) in
@@ -108,18 +109,18 @@ prompt rest begun not_first long =
     (λ (two : (edition (take 8 rest) == 2) ≡ true). inl (ap (λ b. b && (edition (take 8 rest) == 2)) begins_so ∙ two))
     (λ (other_two : (edition (take 8 rest) == 2) ≡ false).
     let enough : nat_lt (length (take 8 rest)) 8 ≡ false = le-ltb (length (take 8 rest)) 8 (omega (arith, size)) in
-    inr (ap is_closed (other (take 8 rest) first ∙ ap judged (edition_refused (take 8 rest) enough first other_two))))
+    inr (ap is_closed (other profile (take 8 rest) first ∙ ap judged (edition_refused profile (take 8 rest) enough first other_two))))
     (cases_Bool (edition (take 8 rest) == 2))
 
-bound_in_time : (rest : List ℕ) (taken before k : ℕ) → begins rest ≡ true
-    → (IsPrompt is_second judge rest → (k : ℕ) → is_closed (judge (take k rest)) ≡ true → taken ≤ before + k + 65536)
-    → edition rest ≢ 1 → is_closed (judge (take k rest)) ≡ true → taken ≤ before + k + 65536
-bound_in_time rest taken before k begun bound not_first closed =
+bound_in_time : (profile : Profile) (rest : List ℕ) (taken before k : ℕ) → begins rest ≡ true
+    → (IsPrompt is_second (judge_under profile) rest → (k : ℕ) → is_closed (judge_under profile (take k rest)) ≡ true → taken ≤ before + k + 65536)
+    → edition rest ≢ 1 → is_closed (judge_under profile (take k rest)) ≡ true → taken ≤ before + k + 65536
+bound_in_time profile rest taken before k begun bound not_first closed =
     ⊎_elim
     (λ (short : length rest < 8).
     let few : length (take k rest) < 8 = omega (arith, short, length-take k rest) in
-    absurd (false≢true (sym (short_open (take k rest) few) ∙ closed)))
-    (λ (long : 8 ≤ length rest). bound (prompt rest begun not_first long) k closed)
+    absurd (false≢true (sym (short_open profile (take k rest) few) ∙ closed)))
+    (λ (long : 8 ≤ length rest). bound (prompt profile rest begun not_first long) k closed)
     (cases_lt (length rest) 8)
 
 given_never : (b : Bool) (first second : List Act) (outcome : Outcome) → choose b (λ _. Gives first 0) (λ _. Gives second 0) ≡ Ends outcome → ⊥
@@ -127,9 +128,9 @@ given_never true first second outcome is = cc
 given_never false first second outcome is = cc
 
 -- a command that prints refuses no message itself
-pub in_time : (first second : Place → List ℕ → List ℕ) (ending : Ending) (outcome : Outcome) (a b : Option (List ℕ))
-    → RefusesSoon is_second (task (printing first second ending)) outcome a b → RefusesInTime outcome a b
-in_time first second ending outcome a b soon refusal is closed =
+pub in_time : (profile : Profile) (first second : Place → List ℕ → List ℕ) (ending : Ending) (outcome : Outcome) (a b : Option (List ℕ))
+    → RefusesSoon is_second (task (under profile (printing first second ending))) outcome a b → RefusesInTime profile outcome a b
+in_time profile first second ending outcome a b soon refusal is closed =
     let (taken, consumed, refused) = soon refusal is closed
     (λ place message e. given_never (edition message == 1) (writes (first place message)) (writes (second place message)) outcome e) in (
       taken,
@@ -139,7 +140,7 @@ in_time first second ending outcome a b soon refusal is closed =
         rest = refused.rest;
         place = refused.place;
         bound = λ not_first k shut.
-            bound_in_time refused.rest (length taken) refused.before k refused.place.begun refused.bound not_first shut;
+            bound_in_time profile refused.rest (length taken) refused.before k refused.place.begun refused.bound not_first shut;
       },
     )
 
@@ -164,11 +165,15 @@ not_truncated Truncated other = absurd (other refl)
 not_truncated reason other = refl
 
 -- what was judged of a message that was heard
-pub heard_verdict : (octets more : List ℕ) → is_second (take 8 (octets ++ more)) ≡ true → judge octets ≡ Message (length octets) → verdict_2 octets ≡ Accepted (length octets)
-heard_verdict octets more second is = message_of (verdict_2 octets) (length octets) (sym (other octets (not_one octets more second)) ∙ is)
+pub heard_verdict : (profile : Profile) (octets more : List ℕ) → is_second (take 8 (octets ++ more)) ≡ true → judge_under profile octets ≡ Message (length octets)
+    → verdict_under profile octets ≡ Accepted (length octets)
+heard_verdict profile octets more second is =
+    message_of (verdict_under profile octets) (length octets) (sym (other profile octets (not_one octets more second)) ∙ is)
 
-pub second_verdict : (octets : List ℕ) → judge_2 octets ≡ Message (length octets) → verdict_2 octets ≡ Accepted (length octets)
-second_verdict octets is = message_of (verdict_2 octets) (length octets) is
+-- by whichever profile it was heard
+pub second_verdict : (profile own : Profile) (octets : List ℕ) → judge_2_under profile ≡ judge_2_under own → judge_2_under profile octets ≡ Message (length octets)
+    → verdict_under own octets ≡ Accepted (length octets)
+second_verdict profile own octets same is = message_of (verdict_under own octets) (length octets) (sym (ap (λ judge. judge octets) same) ∙ is)
 
 -- that a message with its mark is heard
 pub second_is : (octets : List ℕ) → 8 ≤ length octets → is_second (take 8 octets) ≡ true → BeginsLikeTwo octets

@@ -18,7 +18,11 @@ use std::alloc::Global;
 ///
 /// A point is secondary missing, a scaled integer is negative or has more than 48 bits, or there is no
 /// memory.
-pub fn pack_simply(alloc: Global, message: &ReadableMessage<'_>, field: u32) -> Result<Packed, PackFault>
+pub fn pack_simply(
+    alloc: Global,
+    message: &ReadableMessage<'_>,
+    field: u32,
+) -> Result<Packed, PackFault>
     requires first { 1 ≤ field }
     requires last { field ≤ field_count message.now }
     ensures { IsPacked ToSimple (column_of message.now field) (kind_of message.now field) result }
