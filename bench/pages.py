@@ -5,7 +5,7 @@ man page with `man`, and the links of the pages with what is there, here and whe
     bench/pages.py PROGRAM
 
 Each command, name and key of the page is valid in the program and stands in the completion, and the completion has no
-others; so have `refused=` and `kept=`, each with the commands that take it. `help` of the program has a line on each
+others; so have `refused=`, `kept=` and `profile=`, each with the commands that take it. `help` of the program has a line on each
 command, and no others, and the page has the version. The keys of the page, of GUIDE and of PROFILE are the same, with
 what can be set and may be missing, and each page that says how many keys there are has their number. The reasons,
 causes and losses of PROFILE stand in GUIDE and in the man page. The statuses of README, of GUIDE and of the man page
@@ -36,9 +36,12 @@ WORDS = {
 # `refused=` and `kept=`, of the commands that have them.
 PAST = {command: ["refused=pass", "kept=copy"] for command in ("filter", "set", "split", "repack", "rescan", "crop", "migrate", "demote")}
 PAST.update({command: ["refused=pass"] for command in ("check", "list", "keys", "stats")}, dump=["refused=pass", "kept=pass"], values=["refused=pass", "kept=pass"])
+# `profile=open`, of each command that reads messages.
+PROFILE = {command: ["profile=open"] for command in PAST}
 # The pages that say how many keys there are.
 COUNTING = ["README.md", "docs/GUIDE.md", "docs/PROFILE.md", "docs/GLOSSARY.md", "docs/GUARANTEES.md", "docs/DEFINITIONS.md"]
 NOT_PAST = {"check": "kept=pass", "list": "refused=skip", "dump": "kept=copy", "values": "kept=copy", "make": "refused=pass", "version": "refused=pass"}
+NOT_PROFILE = {**dict.fromkeys(PAST, "profile=stated"), "make": "profile=open", "version": "profile=open"}
 failed = []
 
 
@@ -217,21 +220,21 @@ def main():
         hold(printed(program, f"--{word}") == printed(program, word), f"--{word}")
     for command in commands:
         words = WORDS.get(command, [])
-        past = PAST.get(command, [])
+        past = PAST.get(command, []) + PROFILE.get(command, [])
         hold(has_reading(program, command, *past, *words), f"not in the program: {command} {' '.join(past + words)}")
         if command not in ("filter", "set"):
             names = {word.split("=")[0] + "=" for word in words + past}
             told = {*commands, "commands", "refusals", "causes"} if command == "help" else set()
             hold(set(completed(f"grib {command} ")) == names | told, f"names of {command} in the completion")
-            shown = plain(section(page, "COMMANDS") + section(page, "GOING ON AFTER REFUSALS"))
+            shown = plain(section(page, "COMMANDS") + section(page, "GOING ON AFTER REFUSALS") + section(page, "ANY GRID, PRODUCT AND PACKING"))
             hold(all(name in shown for name in names), f"names of {command} in the page")
 
-    for command, word in NOT_PAST.items():
+    for command, word in [*NOT_PAST.items(), *NOT_PROFILE.items()]:
         hold(not has_reading(program, command, *WORDS[command], word), f"read by the program: {command} {word}")
 
     wanted = check_keys(page, profile)
     check_names(page, profile)
-    past = {word.split("=")[0] + "=" for word in PAST["filter"]}
+    past = {word.split("=")[0] + "=" for word in PAST["filter"] + PROFILE["filter"]}
     hold(set(completed("grib filter ")) == {key + "=" for key in wanted} | past, "keys of filter in the completion")
     hold(set(completed("grib set ")) == {key + "=" for key, can in wanted.items() if can} | past, "keys of set in the completion")
     for key, can in wanted.items():

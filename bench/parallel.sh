@@ -62,6 +62,8 @@ printf 'no message at all' >"$work/text"
 alike "repack of ten times gfs.grb, 4 jobs" 4 "$ten" repack to=3 order=2
 alike "filter, 3 jobs" 3 "$ten" filter surface1=100 surface1Value=50000
 alike "set, 1 job" 1 "$ten" set centre=98
+alike "set of any template" 4 "$work/template" set centre=98 profile=open
+alike "rescan of an opaque grid" 3 "$work/template" rescan profile=open
 for damaged in template longer claims huge edition mark end cut junk mixed nothing text; do
   alike "set, $damaged" 4 "$work/$damaged" set centre=98
   alike "filter, $damaged" 2 "$work/$damaged" filter centre=7 surface1=100

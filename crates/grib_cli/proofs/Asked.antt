@@ -342,15 +342,27 @@ change_can None value changes can all = absurd (false≢true can)
 change_can (Some key) None changes can all = all
 change_can (Some key) (Some value) changes can all = All-cons CanBeSet (change key value) changes can all
 
+-- a name that is this one, which is that of no key
+no_key : (this name : List ℕ) (rule : Bool) → key_named this ≡ None → (is this name && rule) ≡ true → key_named name ≡ None
+no_key this name rule none named = ap key_named (same_text name this (both (is this name) rule named).0) ∙ none
+
 -- the name of a word that is read is that of a key that can be set, or of none
 key_can : (name value : List ℕ) → takes (entries Set) name value ≡ true → (is_key_to_set name ≡ true) ⊎ (key_named name ≡ None)
 key_can name value h =
+    let instead = is (codes "copy") value || is (codes "pass") value in
+    let opened = is (codes "profile") name && is (codes "open") value in
+    let kept = is (codes "kept") name && instead in
+    let refused = is (codes "refused") name && instead in
+    let own = is_key_to_set name && is_key_value value in
     ⊎_elim (λ own. inl (both (is_key_to_set name) (is_key_value value) own).0)
-    (λ past.
-    ⊎_elim (λ refused. inr (ap key_named (same_text name (codes "refused") (both (is (codes "refused") name) (is (codes "copy") value || is (codes "pass") value) refused).0)))
-    (λ kept. inr (ap key_named (same_text name (codes "kept") (both (is (codes "kept") name) (is (codes "copy") value || is (codes "pass") value) (only_first (is (codes "kept") name && (is (codes "copy") value || is (codes "pass") value)) kept)).0)))
-    (either (is (codes "refused") name && (is (codes "copy") value || is (codes "pass") value)) ((is (codes "kept") name && (is (codes "copy") value || is (codes "pass") value)) || false) past))
-    (either (is_key_to_set name && is_key_value value) ((is (codes "refused") name && (is (codes "copy") value || is (codes "pass") value)) || ((is (codes "kept") name && (is (codes "copy") value || is (codes "pass") value)) || false)) h)
+    (λ beside.
+    ⊎_elim (λ refused. inr (no_key (codes "refused") name instead refl refused))
+    (λ later.
+    ⊎_elim (λ kept. inr (no_key (codes "kept") name instead refl kept))
+    (λ last. inr (no_key (codes "profile") name (is (codes "open") value) refl (only_first opened last)))
+    (either kept (opened || false) later))
+    (either refused (kept || (opened || false)) beside))
+    (either own (refused || (kept || (opened || false))) h)
 
 keyless_can : (key : Option Key) (value : Option Value) (changes : List Change) → key ≡ None → All CanBeSet changes
     → All CanBeSet (cons_option (option_and_then (λ key. option_map (change key) value) key) changes)

@@ -10,6 +10,7 @@ use Rattle.std.proofs.lemmas.Fmt.{decimal_digit, decimal_nonempty, first_decimal
 use Rattle.std.specs.Prelude.{All}
 use Rattle.grib_keys.specs.declared.wanted.Choice.TheVariants.{One}
 use Rattle.grib_keys.specs.declared.wanted.Wanted.{Wanted}
+use Rattle.grib_base.specs.declared.profile.Profile.TheVariants.{Open}
 use Rattle.grib_keys.specs.declared.key.Key.{Key}
 use Rattle.grib_keys.specs.declared.key.Key.TheVariants.{Discipline}
 use Rattle.grib_keys.specs.declared.condition.Value.{Value}
@@ -26,7 +27,7 @@ use Rattle.grib_keys.specs.Wanted.{same_value, holds}
 use Rattle.grib_keys.proofs.Chosen.{same_decides}
 use Rattle.grib_select.proofs.Bounded.{values_within}
 use Rattle.grib2_message.specs.Fields.{field_count}
-use Rattle.grib2_message.specs.Message.{IsMessage}
+use Rattle.grib2_message.specs.Message.{IsAnyMessage}
 use Rattle.grib_cli.proofs.Numbers.{own}
 
 -- ---- a printed number is a number
@@ -107,10 +108,10 @@ one_asked m i key value has =
 one_condition : (word : List ℕ) (w : Wanted) → wanted_of word ≡ Some w → conditions_of (word ∷ []) ≡ w ∷ []
 one_condition word w e = ap (λ (o : Option Wanted). cons_option o []) e
 
-pub word_picks : (m : List ℕ) (i : ℕ) (key : Key) (value : Value) → IsMessage m → All (λ octet. octet < 256) m → 1 ≤ i → i ≤ field_count m
+pub word_picks : (m : List ℕ) (i : ℕ) (key : Key) (value : Value) → IsAnyMessage m → All (λ octet. octet < 256) m → 1 ≤ i → i ≤ field_count m
     → key_value_of m i key ≡ Some value → fulfils_all m i (conditions_of (word_of (change key value) ∷ [])) ≡ true
 word_picks m i key value h small low high has =
     let word = word_of (change key value) in
-    let read = word_is_read key value (values_within m i key value h small low high has) in
+    let read = word_is_read key value (values_within Open m i key value h small low high has) in
     let asks = one_condition word (wanted false key (One value ∷ [])) (asks_the_value word (change key value) read) in
     ap (fulfils_all m i) asks ∙ one_asked m i key value has

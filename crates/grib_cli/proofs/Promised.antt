@@ -1,6 +1,7 @@
 -- What is promised of a run, from what serving it promises.
 use Rattle.std.proofs.Common.{◌≡◌, ◌⊎◌, ⊎_elim, inl, inr, Bool, true, false, cond, ◌&&◌, ◌==◌, ◌+◌, List, [], ◌∷◌, length, codes, ap, ℕ, Result, Ok, Err, IfOk, IfSome, Some, None, drop, refl, sym, ◌∙◌, subst, rules, tests}
 use Rattle.std.specs.declared.option.Option.{Option}
+use Rattle.grib_base.specs.declared.profile.Profile.{Profile}
 use Rattle.grib_io.specs.Shelves.{Held}
 use Rattle.grib_stream.specs.declared.outcome.Outcome.TheVariants as outcomes
 use Rattle.grib_stream.specs.declared.outcome.Outcome.{Outcome}
@@ -22,7 +23,7 @@ use Rattle.grib_cli.specs.declared.words.command.Command as lines
 use Rattle.grib_cli.specs.declared.words.command.Command.TheVariants as the
 use Rattle.grib_cli.specs.Helping.{is_help, is_on_words, told_of_words}
 use Rattle.grib_cli.specs.Reading.{has_equals, command_named, is_read, read_count, reading_of, reading}
-use Rattle.grib_cli.specs.Words.{IsAsked, job_of, job_of_reading, policy_of, work_by, work_of}
+use Rattle.grib_cli.specs.Words.{IsAsked, job_of, job_of_reading, policy_of, profile_of, work_by, work_of}
 use Rattle.grib_engine.proofs.Unread.{left_alone}
 use Rattle.grib_cli.proofs.Asked.{either, same_text, has_read, is_job, read_behind}
 
@@ -55,37 +56,37 @@ asks_no_job (first ∷ second ∷ later) on =
     ∙ ap (λ all. job_of_reading (cond (all && true) (Ok the.Help) (Err 1)) (second ∷ later)) (more_than_none second later)
 
 -- what they ask for is the work of their job
-pub plainly : (words : List (List ℕ)) (asked : Result Job JobFault) → is_on_words words ≡ false → job_of words ≡ asked → work_of words ≡ work_by asked
-plainly words asked plain is = ap (λ on. cond on (Makes (writing (told_of_words (drop 1 words)) [])) (work_by (job_of words))) plain ∙ ap work_by is
+pub plainly : (words : List (List ℕ)) (asked : Result Job JobFault) → is_on_words words ≡ false → job_of words ≡ asked → work_of words ≡ work_by (profile_of words) asked
+plainly words asked plain is = ap (λ on. cond on (Makes (writing (told_of_words (drop 1 words)) [])) (work_by (profile_of words) (job_of words))) plain ∙ ap (work_by (profile_of words)) is
 
 -- where it does, it is to tell of those behind it
 told : (words : List (List ℕ)) → is_on_words words ≡ true → work_of words ≡ Makes (writing (told_of_words (drop 1 words)) [])
-told words on = ap (λ on. cond on (Makes (writing (told_of_words (drop 1 words)) [])) (work_by (job_of words))) on
+told words on = ap (λ on. cond on (Makes (writing (told_of_words (drop 1 words)) [])) (work_by (profile_of words) (job_of words))) on
 
 module _ (takes_memory : Bool) (words : List (List ℕ)) (outcome : Outcome) (before now : Seen)
-    (leaves : (job : Job) (policy : Policy) (outcome : Outcome) (before now : Seen) → IsJob job → AnswersWork (tasks.work_of job) policy outcome before now → Leaves job policy outcome before now)
-    (judges : (job : Job) (policy : Policy) (outcome : Outcome) (before now : Seen) → AnswersWork (tasks.work_of job) policy outcome before now → IfSome before.left (Judges policy outcome)) where
-  judged_by : (asked : Result Job JobFault) → IfOk asked (λ job. AnswersWork (work_by asked) (policy_of words) outcome before now)
-      → IfOk asked (λ job. IfSome before.left (Judges (policy_of words) outcome))
-  judged_by (Ok job) answer = judges job (policy_of words) outcome before now answer
+    (leaves : (profile : Profile) (job : Job) (policy : Policy) (outcome : Outcome) (before now : Seen) → IsJob job → AnswersWork (tasks.work_under profile job) policy outcome before now → Leaves profile job policy outcome before now)
+    (judges : (profile : Profile) (job : Job) (policy : Policy) (outcome : Outcome) (before now : Seen) → AnswersWork (tasks.work_under profile job) policy outcome before now → IfSome before.left (Judges profile policy outcome)) where
+  judged_by : (asked : Result Job JobFault) → IfOk asked (λ job. AnswersWork (work_by (profile_of words) asked) (policy_of words) outcome before now)
+      → IfOk asked (λ job. IfSome before.left (Judges (profile_of words) (policy_of words) outcome))
+  judged_by (Ok job) answer = judges (profile_of words) job (policy_of words) outcome before now answer
   judged_by (Err fault) answer = tt
 
-  kept_by : (asked : Result Job JobFault) → IfOk asked IsJob → IfOk asked (λ job. AnswersWork (work_by asked) (policy_of words) outcome before now)
-      → IfOk asked (λ job. Leaves job (policy_of words) outcome before now)
-  kept_by (Ok job) is_job answer = leaves job (policy_of words) outcome before now is_job answer
+  kept_by : (asked : Result Job JobFault) → IfOk asked IsJob → IfOk asked (λ job. AnswersWork (work_by (profile_of words) asked) (policy_of words) outcome before now)
+      → IfOk asked (λ job. Leaves (profile_of words) job (policy_of words) outcome before now)
+  kept_by (Ok job) is_job answer = leaves (profile_of words) job (policy_of words) outcome before now is_job answer
   kept_by (Err fault) is_job answer = tt
 
   promised_by : (asked : Result Job JobFault) → job_of words ≡ asked → IfOk asked IsJob
       → Serves takes_memory (work_of words) (policy_of words) outcome before now
-      → IfOk asked (λ job. AnswersWork (work_by asked) (policy_of words) outcome before now)
-      → (policy_of words ≡ nothing → IfOk asked (λ job. IfHears job (RefusesInTime outcome before.left now.left)))
+      → IfOk asked (λ job. AnswersWork (work_by (profile_of words) asked) (policy_of words) outcome before now)
+      → (policy_of words ≡ nothing → IfOk asked (λ job. IfHears job (RefusesInTime (profile_of words) outcome before.left now.left)))
       → Answers takes_memory words outcome before now
   promised_by asked is is_job served answer soon =
       record {
         answer = served.answer;
-        soon = λ stops. subst (λ a. IfOk a (λ job. IfHears job (RefusesInTime outcome before.left now.left))) (sym is) (soon stops);
-        judged = subst (λ a. IfOk a (λ job. IfSome before.left (Judges (policy_of words) outcome))) (sym is) (judged_by asked answer);
-        kept = subst (λ a. IfOk a (λ job. Leaves job (policy_of words) outcome before now)) (sym is) (kept_by asked is_job answer);
+        soon = λ stops. subst (λ a. IfOk a (λ job. IfHears job (RefusesInTime (profile_of words) outcome before.left now.left))) (sym is) (soon stops);
+        judged = subst (λ a. IfOk a (λ job. IfSome before.left (Judges (profile_of words) (policy_of words) outcome))) (sym is) (judged_by asked answer);
+        kept = subst (λ a. IfOk a (λ job. Leaves (profile_of words) job (policy_of words) outcome before now)) (sym is) (kept_by asked is_job answer);
         ends = served.settled;
         stands = served.stands;
         counts = served.counts;
@@ -94,19 +95,22 @@ module _ (takes_memory : Bool) (words : List (List ℕ)) (outcome : Outcome) (be
         table_stays = served.table_stays;
       }
 
-  answered : (asked : Result Job JobFault) → AnswersWork (work_by asked) (policy_of words) outcome before now
-      → IfOk asked (λ job. AnswersWork (work_by asked) (policy_of words) outcome before now)
+  answered : (asked : Result Job JobFault) → AnswersWork (work_by (profile_of words) asked) (policy_of words) outcome before now
+      → IfOk asked (λ job. AnswersWork (work_by (profile_of words) asked) (policy_of words) outcome before now)
   answered (Ok job) answer = answer
   answered (Err fault) answer = tt
 
-  pub promised : (asked : Result Job JobFault) (policy : Policy) → is_on_words words ≡ false → job_of words ≡ asked → policy ≡ policy_of words → IfOk asked IsJob
-      → Serves takes_memory (work_by asked) policy outcome before now
-      → (policy ≡ nothing → IfOk asked (λ job. IfHears job (RefusesInTime outcome before.left now.left)))
+  pub promised : (asked : Result Job JobFault) (profile : Profile) (policy : Policy) → is_on_words words ≡ false → job_of words ≡ asked
+      → profile ≡ profile_of words → policy ≡ policy_of words → IfOk asked IsJob
+      → Serves takes_memory (work_by profile asked) policy outcome before now
+      → (policy ≡ nothing → IfOk asked (λ job. IfHears job (RefusesInTime profile outcome before.left now.left)))
       → Answers takes_memory words outcome before now
-  promised asked policy plain is policy_is is_job serves soon =
-      let own = subst (λ p. Serves takes_memory (work_by asked) p outcome before now) policy_is serves in
+  promised asked profile policy plain is profile_is policy_is is_job serves soon =
+      let by_policy = subst (λ p. Serves takes_memory (work_by profile asked) p outcome before now) policy_is serves in
+      let own = subst (λ p. Serves takes_memory (work_by p asked) (policy_of words) outcome before now) profile_is by_policy in
       promised_by asked is is_job (subst (λ work. Serves takes_memory work (policy_of words) outcome before now) (sym (plainly words asked plain is)) own)
-      (answered asked own.answer) (λ stops. soon (policy_is ∙ stops))
+      (answered asked own.answer)
+      (λ stops. subst (λ p. IfOk asked (λ job. IfHears job (RefusesInTime p outcome before.left now.left))) profile_is (soon (policy_is ∙ stops)))
 
   -- of words that `help` stands before
   -- `later` stands behind `help`
@@ -142,13 +146,13 @@ hears_any (Reads command) P held = λ hears. held
 hears_any (Makes stated) P held = tt
 hears_any (ReadsTables params surfaces commands) P held = tt
 
-pub soon_never : (asked : Result Job JobFault) (outcome : Outcome) (left left_now : Option (List ℕ)) → (outcome ≡ outcomes.Memory) ⊎ (outcome ≡ outcomes.WriteFault)
-    → IfOk asked (λ job. IfHears job (RefusesInTime outcome left left_now))
-soon_never (Ok job) outcome left left_now (inl memory) =
-    hears_any (tasks.work_of job) (RefusesInTime outcome left left_now) (λ refusal is closed. let no : ⊥ = cc (sym memory ∙ is) in absurd no)
-soon_never (Ok job) outcome left left_now (inr write) =
-    hears_any (tasks.work_of job) (RefusesInTime outcome left left_now) (λ refusal is closed. let no : ⊥ = cc (sym write ∙ is) in absurd no)
-soon_never (Err fault) outcome left left_now one = tt
+pub soon_never : (profile : Profile) (asked : Result Job JobFault) (outcome : Outcome) (left left_now : Option (List ℕ)) → (outcome ≡ outcomes.Memory) ⊎ (outcome ≡ outcomes.WriteFault)
+    → IfOk asked (λ job. IfHears job (RefusesInTime profile outcome left left_now))
+soon_never profile (Ok job) outcome left left_now (inl memory) =
+    hears_any (tasks.work_of job) (RefusesInTime profile outcome left left_now) (λ refusal is closed. let no : ⊥ = cc (sym memory ∙ is) in absurd no)
+soon_never profile (Ok job) outcome left left_now (inr write) =
+    hears_any (tasks.work_of job) (RefusesInTime profile outcome left left_now) (λ refusal is closed. let no : ⊥ = cc (sym write ∙ is) in absurd no)
+soon_never profile (Err fault) outcome left left_now one = tt
 
 -- nothing is read
 pub unread_any : (work : Work) (names : Option Held) (P : Type 0) → P → IfUnread work names P

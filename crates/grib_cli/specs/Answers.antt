@@ -12,7 +12,7 @@ use Rattle.grib_run_spec.specs.Serving.{AnswersWork, NotesTold, Stands}
 use Rattle.grib_run_spec.specs.Tasks.{IfHears, has_shelf, has_table}
 use Rattle.grib_run_law.specs.Judged.{Judges}
 use Rattle.grib_run_law.specs.Leaving.{Leaves}
-use Rattle.grib_cli.specs.Words.{job_of, policy_of, work_of}
+use Rattle.grib_cli.specs.Words.{job_of, policy_of, profile_of, work_of}
 
 -- `takes_memory` says whether the output or the notes may stop for memory.
 pub record Answers (takes_memory : Bool) (words : List (List ℕ)) (outcome : Outcome) (before now : Seen) : Type 0 where
@@ -20,11 +20,11 @@ pub record Answers (takes_memory : Bool) (words : List (List ℕ)) (outcome : Ou
   -- says; or a device or a lack of memory ended it, and what was done is a front of it. It says how much was taken.
   pub answer : AnswersWork (work_of words) (policy_of words) outcome before now
   -- A message that `check` or `list` refuses is refused within one read of the octet that makes it so.
-  pub soon : policy_of words ≡ nothing → IfOk (job_of words) (λ job. IfHears job (RefusesInTime outcome before.left now.left))
-  -- What is answered is in the grammar of its edition, and a refusal names the first row that fails.
-  pub judged : IfOk (job_of words) (λ job. IfSome before.left (Judges (policy_of words) outcome))
+  pub soon : policy_of words ≡ nothing → IfOk (job_of words) (λ job. IfHears job (RefusesInTime (profile_of words) outcome before.left now.left))
+  -- What is answered is in the grammar of its edition, that of edition 2 by the profile that the words ask for, and a refusal names the first row that fails.
+  pub judged : IfOk (job_of words) (λ job. IfSome before.left (Judges (profile_of words) (policy_of words) outcome))
   -- What is written has the values of each point, the columns of each field, or is a whole field under its name.
-  pub kept : IfOk (job_of words) (λ job. Leaves job (policy_of words) outcome before now)
+  pub kept : IfOk (job_of words) (λ job. Leaves (profile_of words) job (policy_of words) outcome before now)
   -- Output and notes are brought to their end, unless writing failed or there was no memory.
   pub ends : Settles outcome before now
   -- Where neither of them takes memory, they are where there was none for the rest, too.

@@ -101,22 +101,25 @@ command_rule command name = own_rule name
 
 abbrev pub rule_of : Command → List ℕ → List ℕ
 rule_of command name =
-    cond (is (codes "refused") name || is (codes "kept") name) (policy_rule command) (command_rule command name)
+    cond (is (codes "profile") name) (codes "open")
+    (cond (is (codes "refused") name || is (codes "kept") name) (policy_rule command) (command_rule command name))
 
 -- ---- why a word is not read
 
 abbrev pub is_dashed : List ℕ → Bool
 is_dashed word = get_or word 0 0 == 45
 
--- a word that is the name of no command, with the nearest one where there is one
-abbrev pub no_command_near : List ℕ → List ℕ
-no_command_near nearest =
-    cond (is_empty nearest) (codes "no command has this name; all commands: grib help")
-    (concat (codes "no command has this name; nearest: " ∷ nearest ∷ codes "; all commands: grib help" ∷ []))
+-- a name that is none of this kind, with the nearest one where there is one, and where all stand
+abbrev pub no_such : List ℕ → List ℕ → List ℕ → List ℕ
+no_such kind nearest all =
+    cond (is_empty nearest) (concat (codes "no " ∷ kind ∷ codes " has this name; " ∷ all ∷ []))
+    (concat (codes "no " ∷ kind ∷ codes " has this name; nearest: " ∷ nearest ∷ codes "; " ∷ all ∷ []))
 
+-- a word that is the name of no command
 abbrev pub no_command : List ℕ → List ℕ
 no_command word =
-    cond (is_dashed word) (codes "no words but --help and --version begin with a dash") (no_command_near (nearest_command word))
+    cond (is_dashed word) (codes "no words but --help and --version begin with a dash")
+    (no_such (codes "command") (nearest_command word) (codes "all commands: grib help"))
 
 -- a word without a `=`: it begins with a dash, or is a name without a value, or else taken for the name of a file, with
 -- a line that reads the file
@@ -145,17 +148,12 @@ bare_reason command word words =
     (cond (not (reads_input command)) (no_file command)
     (by_input command words word)))
 
--- a name that is that of a key that cannot be set, or of no key, with the nearest one where there is one
-abbrev pub no_key_near : List ℕ → List ℕ
-no_key_near nearest =
-    cond (is_empty nearest) (codes "no key has this name; all keys: grib help keys")
-    (concat (codes "no key has this name; nearest: " ∷ nearest ∷ codes "; all keys: grib help keys" ∷ []))
-
+-- a name that is that of a key that cannot be set, or of no key
 abbrev pub fixed : List ℕ → List ℕ
 fixed name = concat (name ∷ codes " is fixed, and cannot be set; all keys: grib help keys" ∷ [])
 
 abbrev pub key_reason : List ℕ → List ℕ
-key_reason name = cond (is_key name) (fixed name) (no_key_near (nearest_key name))
+key_reason name = cond (is_key name) (fixed name) (no_such (codes "key") (nearest_key name) (codes "all keys: grib help keys"))
 
 -- a name that a command without keys does not take
 abbrev pub by_filter : Command → List ℕ → List ℕ → List ℕ
@@ -280,6 +278,9 @@ deed_of Make words = codes "writes a synthetic message, made from the seed"
 deed_of Help words = codes "writes a line on each command"
 deed_of Version words = codes "writes the version of the program"
 
+abbrev pub profile_part : List (List ℕ) → List ℕ
+profile_part words = cond (has_word (codes "profile=open") words) (codes ", and accepts any grid, product and packing") []
+
 abbrev pub refused_part : List (List ℕ) → List ℕ
 refused_part words =
     cond (has_word (codes "refused=copy") words) (codes ", and copies what is refused")
@@ -293,7 +294,7 @@ kept_part words =
 -- the line on words that do this
 abbrev pub done_line : List ℕ → List (List ℕ) → List ℕ
 done_line deed words =
-    line (concat (codes "grib" ∷ spaced words ∷ codes ": " ∷ concat (deed ∷ refused_part words ∷ kept_part words ∷ codes "." ∷ []) ∷ []))
+    line (concat (codes "grib" ∷ spaced words ∷ codes ": " ∷ concat (deed ∷ profile_part words ∷ refused_part words ∷ kept_part words ∷ codes "." ∷ []) ∷ []))
 
 -- ---- what is told
 
@@ -314,7 +315,7 @@ judged_by (Err place) words = judged_at place words
 
 -- what a command line of these words would do, or the word at which it is at fault, and why
 abbrev pub judged : List (List ℕ) → List ℕ
-judged words = cond (is_on_words words) (done_line (codes "tells of the words behind help") words) (judged_by (reading words) words)
+judged words = cond (is_on_words words) (done_line (codes "tells of the words after help") words) (judged_by (reading words) words)
 
 -- the text on a name that stands alone, empty where there is none
 abbrev pub told_of_name : List (List ℕ) → List ℕ

@@ -101,17 +101,22 @@ passed_entry name = entry (is name) (is (codes "pass"))
 abbrev pub copied_entry : List ℕ → Entry
 copied_entry name = entry (is name) is_instead
 
+-- By which profile messages of edition 2 are accepted: with any grid, product and packing, where it is asked for.
+abbrev pub profile_entry : Entry
+profile_entry = entry (is (codes "profile")) (is (codes "open"))
+
+-- the names that stand beside a command's own: what a run does with what it cannot answer, and the profile
 abbrev pub policy_entries : Command → List Entry
-policy_entries Check = passed_entry (codes "refused") ∷ []
-policy_entries the.List = passed_entry (codes "refused") ∷ []
-policy_entries Keys = passed_entry (codes "refused") ∷ []
-policy_entries Stats = passed_entry (codes "refused") ∷ []
-policy_entries Dump = passed_entry (codes "refused") ∷ passed_entry (codes "kept") ∷ []
-policy_entries Values = passed_entry (codes "refused") ∷ passed_entry (codes "kept") ∷ []
+policy_entries Check = passed_entry (codes "refused") ∷ profile_entry ∷ []
+policy_entries the.List = passed_entry (codes "refused") ∷ profile_entry ∷ []
+policy_entries Keys = passed_entry (codes "refused") ∷ profile_entry ∷ []
+policy_entries Stats = passed_entry (codes "refused") ∷ profile_entry ∷ []
+policy_entries Dump = passed_entry (codes "refused") ∷ passed_entry (codes "kept") ∷ profile_entry ∷ []
+policy_entries Values = passed_entry (codes "refused") ∷ passed_entry (codes "kept") ∷ profile_entry ∷ []
 policy_entries Make = []
 policy_entries Help = []
 policy_entries Version = []
-policy_entries command = copied_entry (codes "refused") ∷ copied_entry (codes "kept") ∷ []
+policy_entries command = copied_entry (codes "refused") ∷ copied_entry (codes "kept") ∷ profile_entry ∷ []
 
 -- whether a name has this value among the entries
 abbrev pub takes : List Entry → List ℕ → List ℕ → Bool
@@ -232,7 +237,7 @@ is_called command word = is (row_of command).name word
 abbrev pub command_named : List ℕ → Option Command
 command_named word = find (λ command. is_called command word) commands
 
--- the names of its own words, and behind them those on what it goes past
+-- the names of its own words, and behind them those beside them
 abbrev pub own_entries : Command → List Entry
 own_entries command = (row_of command).entries
 

@@ -2,6 +2,8 @@
 use Rattle.std.specs.Prelude.{◌≡◌, ◌⊎◌, ℕ, ◌-◌, ◌^◌, Bool, true, cond, Option, Some, None, option_map, List, [], drop, codes, Result, Ok, Err}
 use Rattle.std.specs.List.{filter_map}
 use Rattle.std.specs.Option.{option_and_then}
+use Rattle.grib_base.specs.declared.profile.Profile.{Profile}
+use Rattle.grib_base.specs.declared.profile.Profile.TheVariants.{Stated, Open}
 use Rattle.grib_keys.specs.declared.key.Key.{Key}
 use Rattle.grib_keys.specs.declared.condition.Value.{Value}
 use Rattle.grib_keys.specs.declared.condition.Change.{Change}
@@ -149,6 +151,10 @@ policy_of words = record {
   kept = instead_by (codes "kept=copy") (codes "kept=pass") words;
 }
 
+-- by which profile messages of edition 2 are accepted
+abbrev pub profile_of : List (List ℕ) → Profile
+profile_of words = cond (has_word (codes "profile=open") words) Open Stated
+
 -- ---- words without a reading
 
 -- a result is this one, unless there is no memory
@@ -163,10 +169,10 @@ abbrev pub outcome_of : JobFault → Outcome
 outcome_of (Usage word) = outcomes.Usage word
 outcome_of Memory = outcomes.Memory
 
-abbrev pub work_by : Result Job JobFault → Work
-work_by (Ok job) = tasks.work_of job
-work_by (Err fault) = Makes (ends_at_once (outcome_of fault))
+abbrev pub work_by : Profile → Result Job JobFault → Work
+work_by profile (Ok job) = tasks.work_under profile job
+work_by profile (Err fault) = Makes (ends_at_once (outcome_of fault))
 
 -- what the words ask for: to tell of those behind `help`, the work of their job, or to note that they have no reading
 abbrev pub work_of : List (List ℕ) → Work
-work_of words = cond (is_on_words words) (Makes (writing (told_of_words (drop 1 words)) [])) (work_by (job_of words))
+work_of words = cond (is_on_words words) (Makes (writing (told_of_words (drop 1 words)) [])) (work_by (profile_of words) (job_of words))

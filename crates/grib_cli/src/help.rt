@@ -10,7 +10,7 @@ mod faults;
 mod wants;
 
 use crate::words::{Command, read_words};
-use deeds::{deed_of, kept_part, refused_part};
+use deeds::{deed_of, kept_part, profile_part, refused_part};
 use faults::reason_at;
 use grib_topics::{shown, told_of};
 use std::alloc::{AllocError, Global};
@@ -82,7 +82,7 @@ fn judged(alloc: Global, words: &[String]) -> Result<String, AllocError>
     ensures { IfOk result (λ text. string_bytes text ≡ helping.judged (map string_bytes words.now)) }
 {
     if is_on_words(words) {
-        return done_line(alloc, words, "tells of the words behind help");
+        return done_line(alloc, words, "tells of the words after help");
     }
     match read_words(words) {
         Ok(command) => done_line(alloc, words, deed_of(command, words)),
@@ -106,9 +106,10 @@ fn done_line(alloc: Global, words: &[String], deed: &str) -> Result<String, Allo
     ensures { IfOk result (λ text. string_bytes text ≡ helping.done_line deed.now (map string_bytes words.now)) }
 {
     let typed = spaced(alloc, words)?;
+    let profile = profile_part(words);
     let refused = refused_part(words);
     let kept = kept_part(words);
-    let part = joined(alloc, deed, refused, kept, ".", "", "")?;
+    let part = joined(alloc, deed, profile, refused, kept, ".", "")?;
     let text = joined(alloc, "grib", typed.as_str(), ": ", part.as_str(), "", "")?;
     line(alloc, text.as_str())
 }

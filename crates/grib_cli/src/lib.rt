@@ -3,8 +3,7 @@
 
 mod help;
 mod running;
-mod telling;
 mod words;
 
 pub use running::run;
-pub use words::{JobFault, job_of, policy_of};
+pub use words::{JobFault, job_of, policy_of, profile_of};

@@ -1,16 +1,17 @@
 //! The top call: from the arguments and the input to the output, the notes and the outcome.
 
-ghost use Rattle.std.specs.Prelude.{◌≡◌, ◌||◌, false, map, string_bytes};
-ghost use Rattle.grib_cli.specs.Answers.{Answers};
-ghost use Rattle.grib_cli.specs.Words as asked;
+ghost use Rattle.std.specs.Prelude.{◌≡◌, ◌||◌, false, [], map, string_bytes};
+ghost use Rattle.grib_items.specs.declared.policy.Policy.{Policy};
 ghost use Rattle.grib_run_spec.specs.Seen.{seen};
-ghost use Rattle.grib_run_spec.specs.Serving.{IfUnread};
-ghost use Rattle.grib_run_spec.specs.Tasks.{has_shelf};
+ghost use Rattle.grib_run_spec.specs.Serving.{IfUnread, Serves};
+ghost use Rattle.grib_run_spec.specs.Tasks.{Makes, has_shelf, writing};
+ghost use Rattle.grib_cli.specs.Answers.{Answers};
+ghost use Rattle.grib_cli.specs.Helping.{told_of_words};
+ghost use Rattle.grib_cli.specs.Words as asked;
 
-use crate::help::is_on_words;
-use crate::telling::tell_of;
-use crate::words::{JobFault, job_of, policy_of};
-use grib_engine::{Outcome, end_at_once, end_without_memory, serve_under};
+use crate::help::{is_on_words, told_of_words};
+use crate::words::{JobFault, job_of, policy_of, profile_of};
+use grib_engine::{Outcome, end_at_once, end_without_memory, serve_under, write_noted};
 use grib_io::{Shelf, Sink, Source};
 use grib_run_law::laws::{what_a_run_answers_is_in_the_grammar, what_a_run_leaves};
 use std::alloc::Global;
@@ -44,7 +45,16 @@ pub fn run<S: Source, T: Sink, N: Sink, H: Shelf>(
         return tell_of(alloc, &words[1..], input, output, notes, shelf);
     }
     match job_of(alloc, words) {
-        Ok(job) => serve_under(alloc, &job, policy_of(words), input, output, notes, shelf),
+        Ok(job) => serve_under(
+            alloc,
+            &job,
+            profile_of(words),
+            policy_of(words),
+            input,
+            output,
+            notes,
+            shelf,
+        ),
         Err(JobFault::Usage(word)) => end_at_once(
             alloc,
             Outcome::Usage(word),
@@ -54,5 +64,25 @@ pub fn run<S: Source, T: Sink, N: Sink, H: Shelf>(
             shelf,
         ),
         Err(JobFault::Memory) => end_without_memory(alloc, input, output, notes, shelf),
+    }
+}
+
+/// Writes what `help` tells of these arguments, and ends the run without a note. Nothing is read.
+fn tell_of<S: Source, T: Sink, N: Sink, H: Shelf>(
+    alloc: Global,
+    words: &[String],
+    input: &S,
+    output: &mut T,
+    notes: &mut N,
+    shelf: &H,
+) -> Outcome
+    ensures { (policy : Policy)
+        → let see = seen S.left S.faults T.contents T.faults T.settled N.contents N.faults N.settled H.contents H.faults in
+        Serves (T.takes_memory || N.takes_memory) (Makes (writing (told_of_words (map string_bytes words.now)) [])) policy result
+        (see input.now output.old notes.old shelf.now) (see input.now output.new notes.new shelf.now) }
+{
+    match told_of_words(alloc, words) {
+        Ok(text) => write_noted(alloc, text.as_bytes(), b"", output, notes),
+        Err(_) => end_without_memory(alloc, input, output, notes, shelf),
     }
 }

@@ -1,9 +1,9 @@
 //! The arguments of the command line.
 
-ghost use Rattle.std.specs.Prelude.{◌≡◌, ◌≤◌, [], length, map, string_bytes, IfOk};
+ghost use Rattle.std.specs.Prelude.{◌≡◌, ◌≤◌, [], ◌∷◌, length, map, string_bytes, IfOk};
 ghost use Rattle.grib_command.specs.Jobs.{IsJob};
 ghost use Rattle.grib_cli.specs.Reading as grammar;
-ghost use Rattle.grib_cli.specs.Reading.{entries, own_entries, policy_entries, box_entries, size_entries, target_entries, reading};
+ghost use Rattle.grib_cli.specs.Reading.{entries, own_entries, policy_entries, profile_entry, box_entries, size_entries, target_entries, reading};
 ghost use Rattle.grib_cli.specs.declared.words.command.Command.TheVariants.{Crop};
 ghost use Rattle.grib_cli.specs.Words.{IsAsked};
 ghost use Rattle.grib_cli.specs.declared.words.JobFault.TheVariants.{Memory};
@@ -24,7 +24,7 @@ mod wanted;
 use asking::{job_of_command, number_by};
 use choices::is_test;
 pub use command::Command;
-pub use policy::policy_of;
+pub use policy::{policy_of, profile_of};
 use values::{is_between, key_value};
 pub(crate) use wanted::asked_key;
 
@@ -137,16 +137,18 @@ pub(crate) fn takes(command: Command, name: &str, value: &str) -> bool
     takes_own(command, name, value) || takes_policy(command, name, value)
 }
 
-/// Whether the names of what a run does with what it cannot answer have a name with this value.
+/// Whether the names beside a command's own, on what it cannot answer and on the profile, have a name with this value.
 fn takes_policy(command: Command, name: &str, value: &str) -> bool
     ensures { result ≡ grammar.takes (policy_entries command) name.now value.now }
 {
     match command {
         Command::Make | Command::Help | Command::Version => false,
         Command::Check | Command::List | Command::Keys | Command::Stats => {
-            name == "refused" && value == "pass"
+            (name == "refused" && value == "pass") || takes_profile(name, value)
         }
-        Command::Dump | Command::Values => matches!(name, "refused" | "kept") && value == "pass",
+        Command::Dump | Command::Values => {
+            (matches!(name, "refused" | "kept") && value == "pass") || takes_profile(name, value)
+        }
         Command::Filter
         | Command::Split
         | Command::Set
@@ -155,9 +157,17 @@ fn takes_policy(command: Command, name: &str, value: &str) -> bool
         | Command::Demote
         | Command::Rescan
         | Command::Crop => {
-            matches!(name, "refused" | "kept") && matches!(value, "copy" | "pass")
+            (matches!(name, "refused" | "kept") && matches!(value, "copy" | "pass"))
+                || takes_profile(name, value)
         }
     }
+}
+
+/// Whether this name with this value asks for a profile.
+fn takes_profile(name: &str, value: &str) -> bool
+    ensures { result ≡ grammar.takes (profile_entry ∷ []) name.now value.now }
+{
+    name == "profile" && value == "open"
 }
 
 /// Whether the names of a command's own arguments have a name with this value.

@@ -2,3 +2,4 @@ pub mod Outside
 pub mod Passing
 pub mod Noted
 pub mod Answers
+pub mod Readable

@@ -32,6 +32,7 @@ help_lines =
     ∷ codes "filter to crop [refused=copy|pass]                the same, or copied\n"
     ∷ codes "filter to crop [kept=copy|pass]                   on behind what is kept\n"
     ∷ codes "dump, values [kept=pass]                          the same\n"
+    ∷ codes "check to crop [profile=open]                      any grid, product and packing\n"
     ∷ codes "Messages come from standard input and go to standard output. The pages: man grib\n"
     ∷ []
 

@@ -1,8 +1,14 @@
 -- Losses and octets one after another.
 use Rattle.std.proofs.Common.{◌≡◌, ℕ, ◌+◌, ◌<◌, ◌≤◌, ◌==◌, ◌&&◌, ◌||◌, not, Bool, true, false, Option, Some, None, List, [], ◌∷◌, ◌++◌, length, nat_lt, refl, sym, ap, ap₂, ◌∙◌, subst, append_assoc, arith, ltb-true}
-use Rattle.std.specs.Prelude.{Result, Ok, Err, MatchResult, IfOk, option_map, unwrap_or}
+use Rattle.std.specs.Prelude.{Result, Ok, Err, MatchResult, IfOk, is_none, option_map, unwrap_or}
 use Rattle.std.specs.Result.{IsErrAnd}
+use Rattle.std.proofs.lemmas.Bool.Decides.{nat_tests}
 use Rattle.grib_base.specs.Rows.{choose}
+use Rattle.grib2_sections.specs.Template.{is_template}
+use Rattle.grib2_grids.specs.Grid.{grid_template}
+use Rattle.grib2_grids.specs.Opaque.{is_opaque_grid}
+use Rattle.grib2_products.specs.Product.{product_template, product_templates}
+use Rattle.grib2_products.specs.Opaque.{is_opaque_product}
 use Rattle.grib_params.specs.declared.matching.TableMatch.{TableMatch}
 use Rattle.grib_params.specs.Table.{Entries}
 use Rattle.grib_params.specs.Pairs.{Pair}
@@ -19,7 +25,8 @@ use Rattle.grib_demote.specs.Dates.{reference_time, loses_date}
 use Rattle.grib_demote.specs.Levels.{level, level_of}
 use Rattle.grib_demote.specs.Times.{unit_of, is_interval, has_range, has_end, loses_interval}
 use Rattle.grib_demote.specs.Products.{centre, sub_centre, loses_centre, pair_in}
-use Rattle.grib_demote.specs.Losses.{first_of}
+use Rattle.grib_demote.specs.Losses.{first_of, loses_product, loses_grid}
+use Rattle.grib_demote.specs.Grids.{type_of}
 use Rattle.grib_demote.specs.Demoted.{told_in}
 use Rattle.grib_demote.specs.Held.{Holds, IsDemoted, IsParameter, AreTimes}
 
@@ -95,6 +102,17 @@ told_is table matching discipline s1 s4 version parameter number unit pair_is le
     ∙ ap (λ o. told_by (Some (version, parameter)) (Some number) o) unit_is
     )
 
+first_false : (a b : Bool) → (a || b) ≡ false → a ≡ false
+first_false true b e = cc e
+first_false false b e = refl
+
+second_false : (a b : Bool) → (a || b) ≡ false → b ≡ false
+second_false true b e = cc e
+second_false false b e = e
+
+by_template : (t : ℕ) → not ((t == 0) || (t == 8)) ≡ false → not (is_template product_templates t) ≡ false
+by_template t known = grind (arith, nat_tests)
+
 both_true : (a b : Bool) → not (a && b) ≡ false → (a ≡ true) × (b ≡ true)
 both_true true true e = (refl, refl)
 both_true true false e = cc e
@@ -109,17 +127,34 @@ ranged true true end e is = refl
 ranged true false end e is = cc e
 ranged false range end e is = cc is
 
+-- a product that is not lost is not opaque
+pub stated_product : (s4 : List ℕ) → loses_product s4 ≡ false → is_opaque_product s4 ≡ false
+stated_product s4 known = by_template (product_template s4) known
+
+-- nor is such a grid
+pub stated_grid : (s3 : List ℕ) → loses_grid s3 ≡ false → is_opaque_grid s3 ≡ false
+stated_grid s3 known = first_false (is_opaque_grid s3) (is_none (type_of (grid_template s3))) known
+
+-- and its template has a type of grid
+pub typed_grid : (s3 : List ℕ) → loses_grid s3 ≡ false → is_none (type_of (grid_template s3)) ≡ false
+typed_grid s3 known = second_false (is_opaque_grid s3) (is_none (type_of (grid_template s3))) known
+
 pub demoted_holds : (table : Entries) (matching : TableMatch) (field : Field) (found : ℕ × ℕ × Level) (unit : ℕ) → Holds field.identification.now field.grid.now field.product.now field.packing.now
     → IsParameter table matching field found → AreTimes field.identification.now field.product.now unit → IsDemoted field
 demoted_holds table matching field found unit holds parameter times =
     let s1 = field.identification.now in
     let s4 = field.product.now in
+    let grid_stated = stated_grid field.grid.now parameter.grid in
+    let product_stated = stated_product s4 parameter.product in
     let centres = both_true (nat_lt (centre s1) 256) (nat_lt (sub_centre s1) 256) parameter.centre_fits in
     let civil = civil_parts (reference_time s1) (first_true (is_civil (reference_time s1)) (not ((reference_time s1).second == 0)) times.date) in
     record {
       identification = holds.identification;
       packing = holds.packing;
-      product = holds.product;
+      grid_stated = grid_stated;
+      grid = holds.grid grid_stated;
+      product_stated = product_stated;
+      product = holds.product product_stated;
       centre_fits = ltb-true (centre s1) 256 centres.0;
       sub_centre_fits = ltb-true (sub_centre s1) 256 centres.1;
       year = civil.1;

@@ -6,6 +6,7 @@ use Rattle.grib_params.specs.declared.matching.TableMatch.{TableMatch}
 use Rattle.grib_params.specs.Table.{Entries}
 use Rattle.grib2_sections.specs.Head.{discipline}
 use Rattle.grib2_grids.specs.Grid.{grid_template}
+use Rattle.grib2_grids.specs.Opaque.{is_opaque_grid}
 use Rattle.grib2_products.specs.Product.{product_template}
 use Rattle.grib2_products.specs.Spelled.{coordinate_list}
 use Rattle.grib_packing.specs.Misfits as packing
@@ -34,6 +35,10 @@ first_of (None ∷ later) = first_of later
 -- templates 4.0 and 4.8
 abbrev pub loses_product : List ℕ → Bool
 loses_product s4 = not ((product_template s4 == 0) || (product_template s4 == 8))
+
+-- a grid that is opaque, or by a template without a type of grid
+abbrev pub loses_grid : List ℕ → Bool
+loses_grid s3 = is_opaque_grid s3 || is_none (type_of (grid_template s3))
 
 -- an earth that is not one of the two of edition 1
 abbrev pub loses_shape : Bool → List ℕ → Bool
@@ -65,7 +70,7 @@ column_loss points = option_map loss_of (first_misfit ToSimple points)
 abbrev pub parameter_losses : Entries → TableMatch → ℕ → List ℕ → List ℕ → List ℕ → List (Option Demotion)
 parameter_losses table matching discipline s1 s3 s4 =
     lost_where (loses_product s4) losses.Product
-    ∷ lost_where (is_none (type_of (grid_template s3))) losses.GridTemplate
+    ∷ lost_where (loses_grid s3) losses.GridTemplate
     ∷ lost_where (loses_centre s1) losses.Centre
     ∷ lost_where (is_none (pair_in table matching discipline s1 s4)) losses.Parameter
     ∷ lost_where (is_none (level_of s4)) losses.Level

@@ -5,6 +5,7 @@ ghost use Rattle.grib2_grids.specs.Grid.{row_list};
 ghost use Rattle.grib_demote.specs.Losses as losses;
 ghost use Rattle.grib_demote.specs.Losses.{first_of, product_losses, parameter_losses, time_losses, form_losses, coordinate_loss};
 ghost use Rattle.grib_demote.specs.Demoted.{told_in};
+ghost use Rattle.grib2_grids.specs.Whole.{IsWhole as IsWholeGrid};
 ghost use Rattle.grib2_products.specs.Whole.{IsWhole};
 ghost use Rattle.grib_demote.specs.Held.{Holds, IsDemoted, IsParameter, AreTimes};
 ghost use Rattle.grib_demote.specs.Products as products;
@@ -19,6 +20,7 @@ use crate::word::ibm_of;
 use grib_bits::{u8_at, u16_at};
 use grib_params::{Table, TableMatch, Target};
 use grib_reasons::Demotion;
+use grib2_grids::is_opaque_grid;
 
 /// What Section 1 has of the product of a field, or the first thing of Sections 1 and 4, or of the template of
 /// the grid, that would be lost.
@@ -66,7 +68,7 @@ fn check_parameter(
     if loses_product(section4) {
         return Err(Demotion::Product);
     }
-    if type_of(u16_at(field.grid, 13)).is_none() {
+    if loses_grid(field.grid) {
         return Err(Demotion::GridTemplate);
     }
     if loses_centre(section1) {
@@ -107,10 +109,18 @@ fn check_times(section1: &[u8], section4: &[u8]) -> Result<u8, Demotion>
 
 /// Whether the product is not one of template 4.0 or 4.8.
 fn loses_product(section4: &[u8]) -> bool
-    requires { 34 ≤ length section4.now }
+    requires { 9 ≤ length section4.now }
     ensures { result ≡ losses.loses_product section4.now }
 {
     !matches!(u16_at(section4, 8), 0 | 8)
+}
+
+/// Whether the grid is opaque, or its template has no type of grid.
+fn loses_grid(section3: &[u8]) -> bool
+    requires { 14 ≤ length section3.now }
+    ensures { result ≡ losses.loses_grid section3.now }
+{
+    is_opaque_grid(section3) || type_of(u16_at(section3, 13)).is_none()
 }
 
 /// Whether the centre or the sub-centre has no place in one octet.
@@ -146,7 +156,7 @@ pub(crate) fn form_loss(
     keep_local: bool,
     any_earth: bool,
 ) -> Option<Demotion>
-    requires holds { Holds field.now.identification.now field.now.grid.now field.now.product.now field.now.packing.now }
+    requires whole { IsWholeGrid field.now.grid.now }
     requires rows { rows.now ≡ row_list field.now.grid.now }
     ensures { result ≡ first_of (form_losses keep_local any_earth field.now.local.now field.now.grid.now) }
 {

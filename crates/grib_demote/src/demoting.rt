@@ -4,7 +4,9 @@ ghost use Rattle.std.specs.Prelude.{◌≡◌, ◌+◌, ◌*◌, ◌^◌, ◌≤
 ghost use Rattle.grib_bits.specs.Listed.{numbers_octets};
 ghost use Rattle.grib_packing.specs.Misfits.{ToSimple};
 ghost use Rattle.grib_packing.specs.Packing.{reference_word};
+ghost use Rattle.grib2_grids.specs.Opaque.{is_opaque_grid};
 ghost use Rattle.grib2_grids.specs.Whole.{IsWhole};
+ghost use Rattle.grib2_products.specs.Opaque.{is_opaque_product};
 ghost use Rattle.grib2_grids.specs.Grid.{grid_points, grid_template, row_list};
 ghost use Rattle.grib2_products.specs.Spelled.{coordinate_list};
 ghost use Rattle.grib2_message.specs.Fields.{field_count, part_octets, column_of};
@@ -27,13 +29,14 @@ use crate::product::{Told, product_octets};
 use crate::tested::grid_loss;
 use crate::values::{add_bitmap, data_octets, has_bitmap};
 use crate::word::ibm_of;
+use grib_base::List;
 use grib_bits::Number::{Four, Two};
 use grib_bits::{add_numbers, add_section1, add_uint, u16_at, u32_at};
 use grib_packed::laws::one_packing_is_written;
 use grib_packing::{PackFault, Packed};
 use grib_params::{Table, TableMatch};
 use grib_reasons::Demotion;
-use grib2_message::Message;
+use grib2_message::ReadableMessage;
 use std::alloc::{AllocError, Global};
 
 /// The most octets of a message of edition 1.
@@ -50,7 +53,7 @@ const MOST_OCTETS: u64 = 16_777_215;
 /// The first thing of the field that would be lost, or there is no memory.
 pub fn demote(
     alloc: Global,
-    message: &Message<'_>,
+    message: &ReadableMessage<'_>,
     field: u32,
     table: &Table,
     matching: TableMatch,
@@ -85,13 +88,15 @@ pub fn demote(
 /// coordinates that would be lost.
 fn grid_octets(
     alloc: Global,
-    message: &Message<'_>,
+    message: &ReadableMessage<'_>,
     field: u32,
     keep_local: bool,
     any_earth: bool,
 ) -> Result<Vec<u8>, DemoteFault>
     requires first { 1 ≤ field }
     requires last { field ≤ field_count message.now }
+    requires grid { is_opaque_grid (part_octets message.now field 3) ≡ false }
+    requires product { is_opaque_product (part_octets message.now field 4) ≡ false }
     ensures { MatchResult result
         (λ octets. (first_of (losses.shape_losses keep_local any_earth message.now field) ≡ None)
         × (octets.items ≡ spec.grid_octets (coordinate_list (part_octets message.now field 4))
@@ -99,18 +104,53 @@ fn grid_octets(
         (IsDemoteFault (first_of (losses.shape_losses keep_local any_earth message.now field))) }
 {
     let parts = Field::of(message, field);
-    let rows = message.grid(alloc, field)?.rows;
+    let rows = rows_of(alloc, message, field)?;
     if let Some(loss) = form_loss(&parts, rows.as_slice(), keep_local, any_earth) {
         return Err(DemoteFault::Lost(loss));
     }
     if let Some(loss) = grid_loss(parts.grid) {
         return Err(DemoteFault::Lost(loss));
     }
-    let coordinates = message.product(alloc, field)?.coordinates;
+    let coordinates = coordinates_of(alloc, message, field)?;
     if let Some(loss) = coordinate_loss(coordinates.as_slice()) {
         return Err(DemoteFault::Lost(loss));
     }
     Ok(grid_section(alloc, parts.grid, coordinates.as_slice(), rows.as_slice())?)
+}
+
+/// The list of rows of the grid of a field.
+fn rows_of(
+    alloc: Global,
+    message: &ReadableMessage<'_>,
+    field: u32,
+) -> Result<List<u32>, AllocError>
+    requires first { 1 ≤ field }
+    requires last { field ≤ field_count message.now }
+    requires stated { is_opaque_grid (part_octets message.now field 3) ≡ false }
+    ensures { IfOk result (λ rows. rows ≡ row_list (part_octets message.now field 3)) }
+{
+    let Some(grid) = message.message().grid(alloc, field)? else {
+        unreachable!();
+    };
+    Ok(grid.rows)
+}
+
+/// The vertical coordinates of the product of a field.
+fn coordinates_of(
+    alloc: Global,
+    message: &ReadableMessage<'_>,
+    field: u32,
+) -> Result<List<u32>, AllocError>
+    requires first { 1 ≤ field }
+    requires last { field ≤ field_count message.now }
+    requires stated { is_opaque_product (part_octets message.now field 4) ≡ false }
+    ensures { IfOk result (λ words. words ≡ coordinate_list (part_octets message.now field 4)) }
+{
+    let product = message.message().product(alloc, field)?;
+    let Some(found) = product else {
+        unreachable!();
+    };
+    Ok(found.coordinates)
 }
 
 /// Octet 4 and further of Section 2, with these vertical coordinates and this list of rows.
@@ -156,7 +196,7 @@ fn add_rows(rows: &[u32], out: &mut Vec<u8>) -> Result<(), AllocError>
 
 /// Sections 5, 6 and 7 of a field in simple packing, or the loss of its reference value or of its first point that
 /// does not fit. No column is made of a field that stands in simple packing.
-fn pack_simply(alloc: Global, message: &Message<'_>, field: u32) -> Result<Packed, DemoteFault>
+fn pack_simply(alloc: Global, message: &ReadableMessage<'_>, field: u32) -> Result<Packed, DemoteFault>
     requires first { 1 ≤ field }
     requires last { field ≤ field_count message.now }
     ensures { MatchResult result

@@ -3,12 +3,12 @@
 ghost use Rattle.std.specs.Prelude.{◌≡◌, ◌≢◌, ◌≤◌, length};
 ghost use Rattle.grib2_sections.specs.Head.{discipline};
 ghost use Rattle.grib2_message.specs.Fields.{field_count, part_octets};
-ghost use Rattle.grib2_message.specs.Message.{FieldPasses};
+ghost use Rattle.grib2_message.specs.Message.{FieldReads};
 ghost use Rattle.grib_demote.specs.Held.{Holds};
 
 use grib_base::Section;
 use grib_bits::u8_at;
-use grib2_message::Message;
+use grib2_message::ReadableMessage;
 
 /// The sections that are in force for a field, and the discipline of its message.
 #[derive(Clone, Copy, Debug)]
@@ -24,7 +24,7 @@ pub(crate) struct Field<'a> {
 
 impl<'a> Field<'a> {
     /// Those of a field, counted from 1.
-    pub(crate) fn of(message: &Message<'a>, field: u32) -> Field<'a>
+    pub(crate) fn of(message: &ReadableMessage<'a>, field: u32) -> Field<'a>
         requires first { 1 ≤ field }
         requires last { field ≤ field_count message.now }
         ensures discipline { result.discipline ≡ discipline message.now }
@@ -35,7 +35,7 @@ impl<'a> Field<'a> {
         ensures packing { result.packing.now ≡ part_octets message.now field 5 }
         ensures holds { Holds (part_octets message.now field 1) (part_octets message.now field 3)
             (part_octets message.now field 4) (part_octets message.now field 5) }
-        ensures passes { FieldPasses message.now field }
+        ensures passes { FieldReads message.now field }
     {
         Field {
             discipline: u8_at(message.octets(), 7),
@@ -49,14 +49,14 @@ impl<'a> Field<'a> {
 }
 
 /// The section with this number, not 2, which each field has.
-pub(crate) fn there<'a>(message: &Message<'a>, field: u32, number: u8) -> Section<'a>
+pub(crate) fn there<'a>(message: &ReadableMessage<'a>, field: u32, number: u8) -> Section<'a>
     requires first { 1 ≤ field }
     requires last { field ≤ field_count message.now }
     requires low { 1 ≤ number }
     requires high { number ≤ 7 }
     requires present { number ≢ 2 }
     ensures octets { result.octets.now ≡ part_octets message.now field number }
-    ensures passes { FieldPasses message.now field }
+    ensures passes { FieldReads message.now field }
 {
     let Some(section) = message.part(field, number) else {
         unreachable!();
@@ -65,7 +65,7 @@ pub(crate) fn there<'a>(message: &Message<'a>, field: u32, number: u8) -> Sectio
 }
 
 /// Section 2, empty where there is none.
-fn local_of<'a>(message: &Message<'a>, field: u32) -> &'a [u8]
+fn local_of<'a>(message: &ReadableMessage<'a>, field: u32) -> &'a [u8]
     requires first { 1 ≤ field }
     requires last { field ≤ field_count message.now }
     ensures { result.now ≡ part_octets message.now field 2 }

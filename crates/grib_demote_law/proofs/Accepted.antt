@@ -4,16 +4,19 @@ use Rattle.std.specs.Prelude.{unwrap_or, is_some}
 use Rattle.std.specs.List.{list_any}
 use Rattle.grib_bits.proofs.OctetBits.{length-bits}
 use Rattle.grib_bits.proofs.Listed.{AreOctets-from_All}
-use Rattle.grib_base.specs.Rows.{first_place}
+use Rattle.grib_base.specs.Rows.{first_fault, first_place}
 use Rattle.grib_bitmap.specs.Mask.{present_count}
-use Rattle.grib_base.specs.declared.profile.Profile.TheVariants.{Stated}
+use Rattle.grib_base.specs.declared.profile.Profile.TheVariants.{Stated, Open}
 use Rattle.grib2_sections.specs.Head.{discipline}
 use Rattle.grib2_grids.specs.Grid as grid2
+use Rattle.grib2_grids.proofs.Under.{same_grid_rows}
+use Rattle.grib2_products.proofs.Under.{same_product_rows}
 use Rattle.grib2_products.specs.Spelled.{coordinate_list}
 use Rattle.grib2_message.specs.Fields.{part_octets, field_mask, column_of}
-use Rattle.grib2_message.specs.Message.{FieldPasses}
+use Rattle.grib2_message.specs.Message.{FieldReads, FieldReadsUnder}
 use Rattle.grib2_message.proofs.Holding.{field_passes_alone, field_mask_long}
 use Rattle.grib2_message.proofs.Masks.{points_bounds}
+use Rattle.grib2_message.proofs.Opened.{field_read}
 use Rattle.grib_packing.specs.declared.column.Column.{Column}
 use Rattle.grib_packing.specs.declared.column.Point.{Point}
 use Rattle.grib_packing.specs.declared.written.Packed.{Packed}
@@ -44,6 +47,7 @@ use Rattle.grib_demote.specs.Products.{local_octets}
 use Rattle.grib_bits.specs.Encoding.{section1_of}
 use Rattle.grib_demote.specs.Values.{has_bitmap, bitmap_section, data_section}
 use Rattle.grib_demote.specs.Demoted.{told_in, grid_octets, message_with, demoted, demoted_sections}
+use Rattle.grib_demote.proofs.Joining.{stated_product}
 use Rattle.grib_demote.proofs.Lists.{few_coordinates}
 use Rattle.grib_demote_law.specs.Field.{MayBeDemoted}
 use Rattle.grib_demote_law.proofs.Losses.{Kept, all_kept}
@@ -77,17 +81,27 @@ module _ (table : Entries) (matching : TableMatch) (keep any : Bool) (message : 
   pub kept : Kept table matching keep any message i
   kept = all_kept table matching keep any message i may.kept
 
-  pub passes : FieldPasses message i
-  passes = field_passes_alone Stated message i may.accepted may.first may.last
+  pub reads : FieldReads message i
+  reads = field_read Open message i (field_passes_alone Open message i may.accepted may.first may.last) (may.readable i may.first may.last)
+
+  -- its grid and its product are not opaque
+  pub passes : FieldReadsUnder Stated message i
+  passes = record {
+    identification = reads.identification;
+    grid = ap first_fault (sym (same_grid_rows Open (part 3) kept.product.stated)) ∙ reads.grid;
+    product = ap first_fault (sym (same_product_rows Open (part 4) 1 (stated_product (part 4) kept.product.product))) ∙ reads.product;
+    packing = reads.packing;
+    values = reads.values;
+  }
 
   pub mask_long : length (field_mask message i) ≡ n
-  mask_long = field_mask_long Stated message i may.accepted (AreOctets-from_All message may.small) may.first may.last
+  mask_long = field_mask_long Open message i may.accepted (AreOctets-from_All message may.small) may.first may.last
 
   pub as_long : length column.points ≡ n
-  as_long = column_long message i passes mask_long
+  as_long = column_long message i reads mask_long
 
   pub packs : MayBePacked column
-  packs = may_be_packed message i passes mask_long
+  packs = may_be_packed message i reads mask_long
 
   pub simple : IsSimple column (kind_of message i) values.section5 values.section6 values.section7
   unfolding packed

@@ -9,6 +9,7 @@ use Rattle.grib_bits.proofs.OctetBits.{AreOctets}
 use Rattle.grib_bits.proofs.OctetNumbers.{octets-lt}
 use Rattle.grib_params.specs.declared.row.Target.{Target}
 use Rattle.grib2_sections.specs.Template.{least_length}
+use Rattle.grib2_products.specs.Opaque.{is_opaque_product}
 use Rattle.grib2_products.specs.Product.{product_template, product_templates, product_length, time_ranges, coordinate_count}
 use Rattle.grib1_sections.specs.Keys.{key_in}
 use Rattle.grib1_sections.specs.declared.key.Key1.TheVariants.{P1, P2, TimeRange, Unit as TimeUnit}
@@ -34,12 +35,12 @@ use Rattle.grib_demote_law.proofs.Front.{has_unit, unit_is, interval_here, inter
 use Rattle.grib_demote_law.proofs.Times.{unit_code}
 use Rattle.grib_demote_law.proofs.KeyValues.{plain_key}
 
-abbrev layout : ℕ → ℕ → Layout
-layout t r = record { template = t; ranges = r }
+abbrev layout : List ℕ → ℕ → ℕ → Layout
+layout x t r = record { template = t; is_opaque = is_opaque_product x; ranges = r }
 
 in_layout : (place : Layout → Option Octets) (x : List ℕ) (t r : ℕ) → octets x 8 9 ≡ t → time_ranges x ≡ r
-    → option_map (value_at unsigned x) (place (layout_of 4 x)) ≡ option_map (value_at unsigned x) (place (layout t r))
-in_layout place x t r is_t is_r = ap₂ (λ (m n : ℕ). option_map (value_at unsigned x) (place (layout m n))) is_t is_r
+    → option_map (value_at unsigned x) (place (layout_of 4 x)) ≡ option_map (value_at unsigned x) (place (layout x t r))
+in_layout place x t r is_t is_r = ap₂ (λ (m n : ℕ). option_map (value_at unsigned x) (place (layout x m n))) is_t is_r
 
 -- ---- the end
 

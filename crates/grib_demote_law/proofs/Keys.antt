@@ -1,5 +1,5 @@
 -- The keys of a field that edition 1 has a place for, and its vertical coordinates, come back.
-use Rattle.std.proofs.Common.{◌≡◌, ℕ, ◌+◌, ◌*◌, ◌<◌, ◌≤◌, ◌^◌, ◌||◌, ◌==◌, Bool, true, false, not, Option, Some, List, [], ◌∷◌, length, take, drop, All, refl, sym, ap, ap₂, ◌∙◌, subst, arith, take-take, eqb-true}
+use Rattle.std.proofs.Common.{◌≡◌, ◌⊎◌, ℕ, inl, inr, ◌+◌, ◌*◌, ◌<◌, ◌≤◌, ◌^◌, ◌||◌, ◌==◌, Bool, true, false, not, Option, Some, List, [], ◌∷◌, length, take, drop, All, refl, sym, ap, ap₂, ◌∙◌, subst, arith, take-take, eqb-true}
 use Rattle.std.specs.Prelude.{unwrap_or}
 use Rattle.std.specs.List.{AllByRecursion}
 use Rattle.std.specs.Option.{option_and_then}
@@ -14,9 +14,12 @@ use Rattle.grib_bits.proofs.OctetNumbers.{octets-lt}
 use Rattle.grib_base.specs.declared.profile.Profile.TheVariants.{Stated}
 use Rattle.grib2_sections.specs.Head.{discipline}
 use Rattle.grib2_grids.specs.Grid as grid2
+use Rattle.grib2_grids.specs.Opaque.{is_opaque_grid}
+use Rattle.grib2_grids.proofs.Under.{not_opaque_grid}
 use Rattle.grib2_products.specs.Product.{product_template}
 use Rattle.grib2_products.specs.Spelled.{coordinate_list}
 use Rattle.grib2_message.specs.Fields.{part_octets}
+use Rattle.grib2_message.proofs.Holding.{field_passes_alone}
 use Rattle.grib2_message.proofs.Masks.{points_bounds}
 use Rattle.grib_params.specs.declared.row.Target.{Target}
 use Rattle.grib_params.specs.declared.matching.TableMatch.{TableMatch}
@@ -34,7 +37,8 @@ use Rattle.grib_migrate.specs.Grids.{grid_octets as migrated_grid}
 use Rattle.grib_migrate.specs.Products.{product_octets}
 use Rattle.grib_migrate.specs.Source.{target_of, no_target}
 use Rattle.grib_migrate.specs.Migrated.{migrated, no_unit, no_surfaces}
-use Rattle.grib_migrate_law.proofs.Migrated.{migrated_parts, written_1}
+use Rattle.grib_migrate_law.proofs.Migrated.{migrated_is_message, migrated_one_field, migrated_parts, written_1}
+use Rattle.grib_keys.specs.Keys.{unsigned, unsigned_or_missing, fixed_or_missing, signed as with_sign}
 use Rattle.grib_keys.specs.declared.key.Key.{Key}
 use Rattle.grib_keys.specs.declared.key.Key.TheVariants as key
 use Rattle.grib_select.specs.Values.{key_value_of, value_in}
@@ -57,7 +61,7 @@ use Rattle.grib_demote_law.proofs.Pairs.{HasNumbers, first_finds, has_numbers, h
 use Rattle.grib_demote_law.proofs.Tables.{target_small}
 use Rattle.grib_demote_law.proofs.Front.{version_is, parameter_is, centre_is}
 use Rattle.grib_demote_law.proofs.Surfaces.{kind_of, level_kind}
-use Rattle.grib_demote_law.proofs.KeyValues.{plain_key, missing_key, signed_key, signed_written}
+use Rattle.grib_demote_law.proofs.KeyValues.{plain_key, missing_key, signed_key, signed_written, stated_key, instant_key}
 use Rattle.grib_demote_law.proofs.Keys1 as keys1
 use Rattle.grib_demote_law.proofs.Keys3 as keys3
 use Rattle.grib_demote_law.proofs.Keys3.{SameGrid, grid_same}
@@ -186,13 +190,21 @@ module _ (text : List ℕ) (table : Entries) (matching : TableMatch) (keep any :
 
   -- ---- Section 3
 
+  -- the grid that is written is not opaque
+  grid_stated : is_opaque_grid (part_octets new 1 3) ≡ false
+  grid_stated =
+      let may_come_back = may_be_migrated text table matching keep any message i read may in
+      let one_field = migrated_one_field table keep old may_come_back in
+      let passes = field_passes_alone Stated new 1 (migrated_is_message table keep old may_come_back) (omega arith) (omega (arith, one_field)) in
+      not_opaque_grid (part_octets new 1 3) passes.grid
+
   grid_keys : SameGrid w3 (part 3)
   grid_keys =
       let s3 = part 3 in
       let passes = accepted.passes table matching keep any message i may in
       let few = accepted.few_words table matching keep any message i may in
       let stands = may_stand s3 words passes.grid kept.product.template kept.shape.numbers kept.shape.rows few (is_listed s3) refl in
-      grid_same (grid2.grid_points s3) b s3 (back.grid_back table matching keep any message i may) (small 3) kept.product.template (back.holds table matching keep any message i may).grid
+      grid_same (grid2.grid_points s3) b s3 (back.grid_back table matching keep any message i may) (small 3) (sym (ap is_opaque_grid part_3) ∙ grid_stated) kept.product.stated kept.product.template (back.grid_whole table matching keep any message i may)
       (type_stands (length words) _ _ _ _ _ _ _ _ stands)
 
   points_key : octets w3 7 10 ≡ octets (part 3) 7 10
@@ -219,6 +231,14 @@ module _ (text : List ℕ) (table : Entries) (matching : TableMatch) (keep any :
       subst (λ (v : Level). (l x y : ℕ) → kind_of (surfaces_at v.level_type l x y) ≡ octets (part 4) 23 23) (sym (ap (λ (o : Option Level). unwrap_or o (level 0 0)) found.1)) (level_kind (part 4) found.0 found.1)
 
   -- the template without an interval
+  known_template : (t : ℕ) → not ((t == 0) || (t == 8)) ≡ false → (t ≡ 0) ⊎ (t ≡ 8)
+  known_template t known = by (t == 0) (t == 8) refl refl known
+    where
+      by : (x y : Bool) → (t == 0) ≡ x → (t == 8) ≡ y → not (x || y) ≡ false → (t ≡ 0) ⊎ (t ≡ 8)
+      by true y is_0 is_8 known = inl (eqb-true t 0 is_0)
+      by false true is_0 is_8 known = inr (eqb-true t 8 is_8)
+      by false false is_0 is_8 known = let no : ⊥ = cc known in absurd no
+
   instant_template : is_interval (part 4) ≡ false → octets (part 4) 8 9 ≡ 0
   instant_template off = by (product_template (part 4) == 0) (product_template (part 4) == 8) refl refl off kept.product.product
     where
@@ -236,7 +256,7 @@ module _ (text : List ℕ) (table : Entries) (matching : TableMatch) (keep any :
       by : (x : Bool) → is_interval (part 4) ≡ x → SameInterval w4 (part 4)
       by true on =
           let h = back.holds table matching keep any message i may in
-          with_interval told bitmapped (part 1) (part 4) (part 5) local (coordinates1.coordinate_list b) target kept.times.interval (small 1) h.identification (small 4) h.product.long kept.times.date
+          with_interval told bitmapped (part 1) (part 4) (part 5) local (coordinates1.coordinate_list b) target kept.times.interval (small 1) h.identification (small 4) (back.product_whole table matching keep any message i may).long kept.times.date
           kept.times.unit refl template on
       by false off = no_interval w4 (part 4) (template ∙ instant_template off) (instant_template off)
 
@@ -257,8 +277,12 @@ module _ (text : List ℕ) (table : Entries) (matching : TableMatch) (keep any :
       let x3 = part_octets new 1 3 in
       let x4 = part_octets new 1 4 in
       let h = back.holds table matching keep any message i may in
+      let template_4 : octets x4 8 9 ≡ product_template s4 =
+      ap (λ (x : List ℕ). octets x 8 9) part_4
+      ∙ keys4.template_back told bitmapped s1 s4 s5 local (coordinates1.coordinate_list b) target kept.times.interval kept.product.product in
+      let template_known = known_template (product_template s4) kept.product.product in
       let long_1 = h.identification in
-      let long_4 = h.product.least in
+      let long_4 = (back.product_whole table matching keep any message i may).least in
       let centred = centre_small s1 kept.product.centre in
       let interval = kept.times.interval in
       let has = not-false (has_process s4) kept.times.process in
@@ -287,7 +311,7 @@ module _ (text : List ℕ) (table : Entries) (matching : TableMatch) (keep any :
                           (
                             plain_key x3 w3 s3 7 10 part_3 points_key,
                             (
-                              missing_key 4 x3 w3 s3 35 38 part_3 nj_key,
+                              stated_key fixed_or_missing x3 s3 (record { first = 35; last = 38 }) grid_stated kept.product.stated (missing_key 4 x3 w3 s3 35 38 part_3 nj_key),
                               (
                                 ap (value_in key.Scanning) part_3 ∙ grid_keys.scanning_key,
                                 (
@@ -301,19 +325,19 @@ module _ (text : List ℕ) (table : Entries) (matching : TableMatch) (keep any :
                                         (
                                           plain_key x4 w4 s4 11 11 part_4 (keys4.number_back told bitmapped s1 s4 s5 local found target interval numbers.number (one 4 11 (omega arith) (omega (arith, long_4)))),
                                           (
-                                            plain_key x4 w4 s4 12 12 part_4 (keys4.process_key told bitmapped s1 s4 s5 local found target interval has (one 4 12 (omega arith) (omega (arith, long_4)))),
+                                            instant_key unsigned x4 s4 12 12 (product_template s4) template_4 refl template_known (plain_key x4 w4 s4 12 12 part_4 (keys4.process_key told bitmapped s1 s4 s5 local found target interval has (one 4 12 (omega arith) (omega (arith, long_4))))),
                                             (
-                                              plain_key x4 w4 s4 14 14 part_4 (keys4.generator_back told bitmapped s1 s4 s5 local found target interval (one 4 14 (omega arith) (omega (arith, long_4)))),
+                                              instant_key unsigned x4 s4 14 14 (product_template s4) template_4 refl template_known (plain_key x4 w4 s4 14 14 part_4 (keys4.generator_back told bitmapped s1 s4 s5 local found target interval (one 4 14 (omega arith) (omega (arith, long_4))))),
                                               (
-                                                plain_key x4 w4 s4 18 18 part_4 (keys4.unit_back told bitmapped s1 s4 s5 local found target interval kept.times.unit refl (one 4 18 (omega arith) (omega (arith, long_4)))),
+                                                instant_key unsigned x4 s4 18 18 (product_template s4) template_4 refl template_known (plain_key x4 w4 s4 18 18 part_4 (keys4.unit_back told bitmapped s1 s4 s5 local found target interval kept.times.unit refl (one 4 18 (omega arith) (omega (arith, long_4))))),
                                                 (
-                                                  signed_key x4 w4 s4 19 22 part_4
+                                                  instant_key with_sign x4 s4 19 22 (product_template s4) template_4 refl template_known (signed_key x4 w4 s4 19 22 part_4
                                                       (signed_written w4 s4 19 22 (times.forecast_time a) (small 4) (omega arith) (omega arith) (omega (arith, long_4)) refl
-                                                      (ap (λ (n : ℕ). signed (bits_of 32 n)) (keys4.forecast_is told bitmapped s1 s4 s5 local found target interval has))),
+                                                      (ap (λ (n : ℕ). signed (bits_of 32 n)) (keys4.forecast_is told bitmapped s1 s4 s5 local found target interval has)))),
                                                   (
-                                                    missing_key 1 x4 w4 s4 23 23 part_4
+                                                    instant_key unsigned_or_missing x4 s4 23 23 (product_template s4) template_4 refl template_known (missing_key 1 x4 w4 s4 23 23 part_4
                                                         (keys4.surface_back told bitmapped s1 s4 s5 local found target interval (back.level_found table matching keep any message i may) surface_kind
-                                                        (one 4 23 (omega arith) (omega (arith, long_4)))),
+                                                        (one 4 23 (omega arith) (omega (arith, long_4))))),
                                                     last_keys,
                                                   ),
                                                 ),

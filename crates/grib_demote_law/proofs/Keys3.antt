@@ -1,5 +1,5 @@
 -- The keys of Section 3 come back.
-use Rattle.std.proofs.Common.{◌≡◌, ℕ, ◌*◌, ◌<◌, ◌≤◌, ◌^◌, ◌||◌, ◌==◌, false, cond, List, ◌++◌, length, refl, sym, ap, ◌∙◌, arith}
+use Rattle.std.proofs.Common.{◌≡◌, ℕ, ◌*◌, ◌<◌, ◌≤◌, ◌^◌, ◌||◌, ◌==◌, Bool, false, cond, Option, List, ◌++◌, length, refl, sym, ap, ap₂, ◌∙◌, arith}
 use Rattle.std.specs.Prelude.{is_none, option_map, unwrap_or}
 use Rattle.grib_bits.specs.Octets.{octets}
 use Rattle.grib_bits.specs.Bits.{bits_of, signed}
@@ -9,12 +9,15 @@ use Rattle.grib_bits.proofs.OctetBits.{AreOctets}
 use Rattle.grib_bits.proofs.OctetNumbers.{octets-lt}
 use Rattle.grib2_sections.specs.Template.{least_length}
 use Rattle.grib2_grids.specs.Grid.{grid_template, grid_templates, nj}
+use Rattle.grib2_grids.specs.Opaque.{is_opaque_grid}
 use Rattle.grib2_grids.specs.Whole.{IsWhole}
 use Rattle.grib1_sections.specs.Grid as grid1
 use Rattle.grib_keys.specs.declared.key.Key.TheVariants.{Scanning, La1, Lo1}
+use Rattle.grib_keys.specs.declared.table.Kind.{Kind}
 use Rattle.grib_keys.specs.declared.table.Layout.{Layout}
+use Rattle.grib_keys.specs.declared.table.Octets.{Octets}
 use Rattle.grib_keys.specs.Keys.{unsigned, signed as with_sign, scanning_place, first_point}
-use Rattle.grib_select.specs.Values.{value_at, value_in}
+use Rattle.grib_select.specs.Values.{value_at, value_in, layout_of}
 use Rattle.grib_bits.specs.declared.adding.Number.{Number}
 use Rattle.grib_migrate.specs.Grids as migrate
 use Rattle.grib_migrate.specs.Grids.{header, common, template_numbers, row_octets, grid_octets, three}
@@ -24,17 +27,22 @@ use Rattle.grib_demote_law.proofs.KeyValues.{plain_key, signed_key, signed_writt
 use Rattle.grib_demote_law.proofs.Back.{IsBack, by_template, la_place, lo_place}
 
 abbrev layout_with : ℕ → Layout
-layout_with t = record { template = t; ranges = 0 }
+layout_with t = record { template = t; is_opaque = false; ranges = 0 }
 
--- keys of a section with this template
-scanning_in : (x : List ℕ) (t : ℕ) → octets x 13 14 ≡ t → value_in Scanning x ≡ option_map (value_at unsigned x) (scanning_place (layout_with t))
-scanning_in x t is = ap (λ (n : ℕ). option_map (value_at unsigned x) (scanning_place (layout_with n))) is
+in_layout : (kind : Kind) (place : Layout → Option Octets) (x : List ℕ) (t : ℕ) → octets x 13 14 ≡ t → is_opaque_grid x ≡ false
+    → option_map (value_at kind x) (place (layout_of 3 x)) ≡ option_map (value_at kind x) (place (layout_with t))
+in_layout kind place x t is stated =
+    ap₂ (λ (n : ℕ) (b : Bool). option_map (value_at kind x) (place (record { template = n; is_opaque = b; ranges = 0 }))) is stated
 
-la1_in : (x : List ℕ) (t : ℕ) → octets x 13 14 ≡ t → value_in La1 x ≡ option_map (value_at with_sign x) (first_point 47 39 (layout_with t))
-la1_in x t is = ap (λ (n : ℕ). option_map (value_at with_sign x) (first_point 47 39 (layout_with n))) is
+-- keys of a section with this template that is not opaque
+scanning_in : (x : List ℕ) (t : ℕ) → octets x 13 14 ≡ t → is_opaque_grid x ≡ false → value_in Scanning x ≡ option_map (value_at unsigned x) (scanning_place (layout_with t))
+scanning_in x t is stated = in_layout unsigned scanning_place x t is stated
 
-lo1_in : (x : List ℕ) (t : ℕ) → octets x 13 14 ≡ t → value_in Lo1 x ≡ option_map (value_at unsigned x) (first_point 51 43 (layout_with t))
-lo1_in x t is = ap (λ (n : ℕ). option_map (value_at unsigned x) (first_point 51 43 (layout_with n))) is
+la1_in : (x : List ℕ) (t : ℕ) → octets x 13 14 ≡ t → is_opaque_grid x ≡ false → value_in La1 x ≡ option_map (value_at with_sign x) (first_point 47 39 (layout_with t))
+la1_in x t is stated = in_layout with_sign (first_point 47 39) x t is stated
+
+lo1_in : (x : List ℕ) (t : ℕ) → octets x 13 14 ≡ t → is_opaque_grid x ≡ false → value_in Lo1 x ≡ option_map (value_at unsigned x) (first_point 51 43 (layout_with t))
+lo1_in x t is stated = in_layout unsigned (first_point 51 43) x t is stated
 
 -- what is known of the keys of two sections
 pub record SameGrid (w s : List ℕ) : Type 0 where
@@ -112,109 +120,110 @@ module _ (n : ℕ) (g s3 : List ℕ) (back : IsBack g s3) (small : AreOctets s3)
       let there : migrate.template_of (grid1.grid_type g) ≡ t = ap migrate.template_of type ∙ is in
       num_on-octets_of 2 (migrate.template_of (grid1.grid_type g)) (omega (arith, there, few)) ∙ there
 
-  -- ---- by the template
+  -- ---- by the template, where neither section is opaque
 
-  mercator_same : grid_template s3 ≡ 10 → grid1.grid_type g ≡ 1 → 72 ≤ length s3 → SameGrid w s3
-  mercator_same at type long =
-      let written = with_numbers (migrate.mercator g) in
-      let t = template_is 1 10 type refl (omega arith) in
-      let is = w_is 1 type in
-      let la = plane_la1 (ap la_place at) (ap lo_place at) (omega (arith, long)) in
-      let lo = plane_lo1 (ap la_place at) (ap lo_place at) (omega (arith, long)) in
-      let high = lo.1 in
-      let same = lo.0 in
-      let scan = scanning_there 60 (scanning_at 10 at) (omega arith) (omega (arith, long)) in
-      let few = scan.1 in
-      record {
-        template = t ∙ sym at;
-        scanning_key = scanning_in w 10 t ∙ plain_key w written s3 60 60 is (num_on-octets_of 1 (migrate.scanning g) (omega (arith, few)) ∙ scan.0) ∙ sym (scanning_in s3 10 at);
-        la1_key = la1_in w 10 t
-            ∙ signed_key w written s3 39 42 is (signed_written written s3 39 42 (migrate.angle (three g 11)) small (omega arith) (omega arith) (omega (arith, long)) refl la) ∙ sym (la1_in s3 10 at);
-        lo1_key = lo1_in w 10 t
-            ∙ plain_key w written s3 43 46 is (num_on-octets_of 4 (migrate.longitude (three g 14)) (omega (arith, same, high)) ∙ same) ∙ sym (lo1_in s3 10 at);
-      }
+  module _ (w_stated : is_opaque_grid w ≡ false) (stated : is_opaque_grid s3 ≡ false) where
+    mercator_same : grid_template s3 ≡ 10 → grid1.grid_type g ≡ 1 → 72 ≤ length s3 → SameGrid w s3
+    mercator_same at type long =
+        let written = with_numbers (migrate.mercator g) in
+        let t = template_is 1 10 type refl (omega arith) in
+        let is = w_is 1 type in
+        let la = plane_la1 (ap la_place at) (ap lo_place at) (omega (arith, long)) in
+        let lo = plane_lo1 (ap la_place at) (ap lo_place at) (omega (arith, long)) in
+        let high = lo.1 in
+        let same = lo.0 in
+        let scan = scanning_there 60 (scanning_at 10 at) (omega arith) (omega (arith, long)) in
+        let few = scan.1 in
+        record {
+          template = t ∙ sym at;
+          scanning_key = scanning_in w 10 t w_stated ∙ plain_key w written s3 60 60 is (num_on-octets_of 1 (migrate.scanning g) (omega (arith, few)) ∙ scan.0) ∙ sym (scanning_in s3 10 at stated);
+          la1_key = la1_in w 10 t w_stated
+              ∙ signed_key w written s3 39 42 is (signed_written written s3 39 42 (migrate.angle (three g 11)) small (omega arith) (omega arith) (omega (arith, long)) refl la) ∙ sym (la1_in s3 10 at stated);
+          lo1_key = lo1_in w 10 t w_stated
+              ∙ plain_key w written s3 43 46 is (num_on-octets_of 4 (migrate.longitude (three g 14)) (omega (arith, same, high)) ∙ same) ∙ sym (lo1_in s3 10 at stated);
+        }
 
-  polar_same : grid_template s3 ≡ 20 → grid1.grid_type g ≡ 5 → 65 ≤ length s3 → SameGrid w s3
-  polar_same at type long =
-      let written = with_numbers (migrate.polar g (migrate.true_latitude (migrate.centre g))) in
-      let t = template_is 5 20 type refl (omega arith) in
-      let is = w_is 5 type in
-      let la = plane_la1 (ap la_place at) (ap lo_place at) (omega (arith, long)) in
-      let lo = plane_lo1 (ap la_place at) (ap lo_place at) (omega (arith, long)) in
-      let high = lo.1 in
-      let same = lo.0 in
-      let scan = scanning_there 65 (scanning_at 20 at) (omega arith) (omega (arith, long)) in
-      let few = scan.1 in
-      record {
-        template = t ∙ sym at;
-        scanning_key = scanning_in w 20 t ∙ plain_key w written s3 65 65 is (num_on-octets_of 1 (migrate.scanning g) (omega (arith, few)) ∙ scan.0) ∙ sym (scanning_in s3 20 at);
-        la1_key = la1_in w 20 t
-            ∙ signed_key w written s3 39 42 is (signed_written written s3 39 42 (migrate.angle (three g 11)) small (omega arith) (omega arith) (omega (arith, long)) refl la) ∙ sym (la1_in s3 20 at);
-        lo1_key = lo1_in w 20 t
-            ∙ plain_key w written s3 43 46 is (num_on-octets_of 4 (migrate.longitude (three g 14)) (omega (arith, same, high)) ∙ same) ∙ sym (lo1_in s3 20 at);
-      }
+    polar_same : grid_template s3 ≡ 20 → grid1.grid_type g ≡ 5 → 65 ≤ length s3 → SameGrid w s3
+    polar_same at type long =
+        let written = with_numbers (migrate.polar g (migrate.true_latitude (migrate.centre g))) in
+        let t = template_is 5 20 type refl (omega arith) in
+        let is = w_is 5 type in
+        let la = plane_la1 (ap la_place at) (ap lo_place at) (omega (arith, long)) in
+        let lo = plane_lo1 (ap la_place at) (ap lo_place at) (omega (arith, long)) in
+        let high = lo.1 in
+        let same = lo.0 in
+        let scan = scanning_there 65 (scanning_at 20 at) (omega arith) (omega (arith, long)) in
+        let few = scan.1 in
+        record {
+          template = t ∙ sym at;
+          scanning_key = scanning_in w 20 t w_stated ∙ plain_key w written s3 65 65 is (num_on-octets_of 1 (migrate.scanning g) (omega (arith, few)) ∙ scan.0) ∙ sym (scanning_in s3 20 at stated);
+          la1_key = la1_in w 20 t w_stated
+              ∙ signed_key w written s3 39 42 is (signed_written written s3 39 42 (migrate.angle (three g 11)) small (omega arith) (omega arith) (omega (arith, long)) refl la) ∙ sym (la1_in s3 20 at stated);
+          lo1_key = lo1_in w 20 t w_stated
+              ∙ plain_key w written s3 43 46 is (num_on-octets_of 4 (migrate.longitude (three g 14)) (omega (arith, same, high)) ∙ same) ∙ sym (lo1_in s3 20 at stated);
+        }
 
-  lambert_same : grid_template s3 ≡ 30 → grid1.grid_type g ≡ 3 → 81 ≤ length s3 → SameGrid w s3
-  lambert_same at type long =
-      let written = with_numbers (migrate.polar g (migrate.angle (three g 29)) ++ migrate.lambert g) in
-      let t = template_is 3 30 type refl (omega arith) in
-      let is = w_is 3 type in
-      let la = plane_la1 (ap la_place at) (ap lo_place at) (omega (arith, long)) in
-      let lo = plane_lo1 (ap la_place at) (ap lo_place at) (omega (arith, long)) in
-      let high = lo.1 in
-      let same = lo.0 in
-      let scan = scanning_there 65 (scanning_at 30 at) (omega arith) (omega (arith, long)) in
-      let few = scan.1 in
-      record {
-        template = t ∙ sym at;
-        scanning_key = scanning_in w 30 t ∙ plain_key w written s3 65 65 is (num_on-octets_of 1 (migrate.scanning g) (omega (arith, few)) ∙ scan.0) ∙ sym (scanning_in s3 30 at);
-        la1_key = la1_in w 30 t
-            ∙ signed_key w written s3 39 42 is (signed_written written s3 39 42 (migrate.angle (three g 11)) small (omega arith) (omega arith) (omega (arith, long)) refl la) ∙ sym (la1_in s3 30 at);
-        lo1_key = lo1_in w 30 t
-            ∙ plain_key w written s3 43 46 is (num_on-octets_of 4 (migrate.longitude (three g 14)) (omega (arith, same, high)) ∙ same) ∙ sym (lo1_in s3 30 at);
-      }
+    lambert_same : grid_template s3 ≡ 30 → grid1.grid_type g ≡ 3 → 81 ≤ length s3 → SameGrid w s3
+    lambert_same at type long =
+        let written = with_numbers (migrate.polar g (migrate.angle (three g 29)) ++ migrate.lambert g) in
+        let t = template_is 3 30 type refl (omega arith) in
+        let is = w_is 3 type in
+        let la = plane_la1 (ap la_place at) (ap lo_place at) (omega (arith, long)) in
+        let lo = plane_lo1 (ap la_place at) (ap lo_place at) (omega (arith, long)) in
+        let high = lo.1 in
+        let same = lo.0 in
+        let scan = scanning_there 65 (scanning_at 30 at) (omega arith) (omega (arith, long)) in
+        let few = scan.1 in
+        record {
+          template = t ∙ sym at;
+          scanning_key = scanning_in w 30 t w_stated ∙ plain_key w written s3 65 65 is (num_on-octets_of 1 (migrate.scanning g) (omega (arith, few)) ∙ scan.0) ∙ sym (scanning_in s3 30 at stated);
+          la1_key = la1_in w 30 t w_stated
+              ∙ signed_key w written s3 39 42 is (signed_written written s3 39 42 (migrate.angle (three g 11)) small (omega arith) (omega arith) (omega (arith, long)) refl la) ∙ sym (la1_in s3 30 at stated);
+          lo1_key = lo1_in w 30 t w_stated
+              ∙ plain_key w written s3 43 46 is (num_on-octets_of 4 (migrate.longitude (three g 14)) (omega (arith, same, high)) ∙ same) ∙ sym (lo1_in s3 30 at stated);
+        }
 
-  lat_lon_same : grid_template s3 ≡ 0 → grid1.grid_type g ≡ 0 → 72 ≤ length s3 → SameGrid w s3
-  lat_lon_same at type long =
-      let written = with_numbers (migrate.lat_lon g (migrate.increment g 26)) in
-      let t = template_is 0 0 type refl (omega arith) in
-      let is = w_is 0 type in
-      let la = angles_la1 (ap la_place at) (ap lo_place at) (omega (arith, long)) in
-      let lo = angles_lo1 (ap la_place at) (ap lo_place at) (omega (arith, long)) in
-      let high = lo.1 in
-      let same = lo.0 in
-      let scan = scanning_there 72 (scanning_at 0 at) (omega arith) (omega (arith, long)) in
-      let few = scan.1 in
-      record {
-        template = t ∙ sym at;
-        scanning_key = scanning_in w 0 t ∙ plain_key w written s3 72 72 is (num_on-octets_of 1 (migrate.scanning g) (omega (arith, few)) ∙ scan.0) ∙ sym (scanning_in s3 0 at);
-        la1_key = la1_in w 0 t
-            ∙ signed_key w written s3 47 50 is (signed_written written s3 47 50 (migrate.angle (three g 11)) small (omega arith) (omega arith) (omega (arith, long)) refl la) ∙ sym (la1_in s3 0 at);
-        lo1_key = lo1_in w 0 t
-            ∙ plain_key w written s3 51 54 is (num_on-octets_of 4 (migrate.longitude (three g 14)) (omega (arith, same, high)) ∙ same) ∙ sym (lo1_in s3 0 at);
-      }
+    lat_lon_same : grid_template s3 ≡ 0 → grid1.grid_type g ≡ 0 → 72 ≤ length s3 → SameGrid w s3
+    lat_lon_same at type long =
+        let written = with_numbers (migrate.lat_lon g (migrate.increment g 26)) in
+        let t = template_is 0 0 type refl (omega arith) in
+        let is = w_is 0 type in
+        let la = angles_la1 (ap la_place at) (ap lo_place at) (omega (arith, long)) in
+        let lo = angles_lo1 (ap la_place at) (ap lo_place at) (omega (arith, long)) in
+        let high = lo.1 in
+        let same = lo.0 in
+        let scan = scanning_there 72 (scanning_at 0 at) (omega arith) (omega (arith, long)) in
+        let few = scan.1 in
+        record {
+          template = t ∙ sym at;
+          scanning_key = scanning_in w 0 t w_stated ∙ plain_key w written s3 72 72 is (num_on-octets_of 1 (migrate.scanning g) (omega (arith, few)) ∙ scan.0) ∙ sym (scanning_in s3 0 at stated);
+          la1_key = la1_in w 0 t w_stated
+              ∙ signed_key w written s3 47 50 is (signed_written written s3 47 50 (migrate.angle (three g 11)) small (omega arith) (omega arith) (omega (arith, long)) refl la) ∙ sym (la1_in s3 0 at stated);
+          lo1_key = lo1_in w 0 t w_stated
+              ∙ plain_key w written s3 51 54 is (num_on-octets_of 4 (migrate.longitude (three g 14)) (omega (arith, same, high)) ∙ same) ∙ sym (lo1_in s3 0 at stated);
+        }
 
-  gaussian_same : grid_template s3 ≡ 40 → grid1.grid_type g ≡ 4 → 72 ≤ length s3 → SameGrid w s3
-  gaussian_same at type long =
-      let written = with_numbers (migrate.lat_lon g (octets g 26 27)) in
-      let t = template_is 4 40 type refl (omega arith) in
-      let is = w_is 4 type in
-      let la = angles_la1 (ap la_place at) (ap lo_place at) (omega (arith, long)) in
-      let lo = angles_lo1 (ap la_place at) (ap lo_place at) (omega (arith, long)) in
-      let high = lo.1 in
-      let same = lo.0 in
-      let scan = scanning_there 72 (scanning_at 40 at) (omega arith) (omega (arith, long)) in
-      let few = scan.1 in
-      record {
-        template = t ∙ sym at;
-        scanning_key = scanning_in w 40 t ∙ plain_key w written s3 72 72 is (num_on-octets_of 1 (migrate.scanning g) (omega (arith, few)) ∙ scan.0) ∙ sym (scanning_in s3 40 at);
-        la1_key = la1_in w 40 t
-            ∙ signed_key w written s3 47 50 is (signed_written written s3 47 50 (migrate.angle (three g 11)) small (omega arith) (omega arith) (omega (arith, long)) refl la) ∙ sym (la1_in s3 40 at);
-        lo1_key = lo1_in w 40 t
-            ∙ plain_key w written s3 51 54 is (num_on-octets_of 4 (migrate.longitude (three g 14)) (omega (arith, same, high)) ∙ same) ∙ sym (lo1_in s3 40 at);
-      }
+    gaussian_same : grid_template s3 ≡ 40 → grid1.grid_type g ≡ 4 → 72 ≤ length s3 → SameGrid w s3
+    gaussian_same at type long =
+        let written = with_numbers (migrate.lat_lon g (octets g 26 27)) in
+        let t = template_is 4 40 type refl (omega arith) in
+        let is = w_is 4 type in
+        let la = angles_la1 (ap la_place at) (ap lo_place at) (omega (arith, long)) in
+        let lo = angles_lo1 (ap la_place at) (ap lo_place at) (omega (arith, long)) in
+        let high = lo.1 in
+        let same = lo.0 in
+        let scan = scanning_there 72 (scanning_at 40 at) (omega arith) (omega (arith, long)) in
+        let few = scan.1 in
+        record {
+          template = t ∙ sym at;
+          scanning_key = scanning_in w 40 t w_stated ∙ plain_key w written s3 72 72 is (num_on-octets_of 1 (migrate.scanning g) (omega (arith, few)) ∙ scan.0) ∙ sym (scanning_in s3 40 at stated);
+          la1_key = la1_in w 40 t w_stated
+              ∙ signed_key w written s3 47 50 is (signed_written written s3 47 50 (migrate.angle (three g 11)) small (omega arith) (omega arith) (omega (arith, long)) refl la) ∙ sym (la1_in s3 40 at stated);
+          lo1_key = lo1_in w 40 t w_stated
+              ∙ plain_key w written s3 51 54 is (num_on-octets_of 4 (migrate.longitude (three g 14)) (omega (arith, same, high)) ∙ same) ∙ sym (lo1_in s3 40 at stated);
+        }
 
-  pub grid_same : is_none (type_of (grid_template s3)) ≡ false → IsWhole s3 → grid1.grid_type g ≡ unwrap_or (type_of (grid_template s3)) 0 → SameGrid w s3
-  grid_same some whole type =
-      by_template (λ (t : ℕ). grid_template s3 ≡ t → grid1.grid_type g ≡ unwrap_or (type_of t) 0 → least_length grid_templates t ≤ length s3 → SameGrid w s3) lat_lon_same mercator_same polar_same lambert_same
-      gaussian_same (grid_template s3) some refl type whole.long
+    pub grid_same : is_none (type_of (grid_template s3)) ≡ false → IsWhole s3 → grid1.grid_type g ≡ unwrap_or (type_of (grid_template s3)) 0 → SameGrid w s3
+    grid_same some whole type =
+        by_template (λ (t : ℕ). grid_template s3 ≡ t → grid1.grid_type g ≡ unwrap_or (type_of t) 0 → least_length grid_templates t ≤ length s3 → SameGrid w s3) lat_lon_same mercator_same polar_same lambert_same
+        gaussian_same (grid_template s3) some refl type whole.long

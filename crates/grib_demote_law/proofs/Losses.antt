@@ -4,6 +4,7 @@ use Rattle.std.specs.Prelude.{is_none, option_map}
 use Rattle.std.proofs.lemmas.Bool.{ltb-false}
 use Rattle.grib2_sections.specs.Head.{discipline}
 use Rattle.grib2_grids.specs.Grid.{grid_template}
+use Rattle.grib2_grids.specs.Opaque.{is_opaque_grid}
 use Rattle.grib2_products.specs.Spelled.{coordinate_list}
 use Rattle.grib_packing.specs.Misfits.{ToSimple, Misfit, first_misfit}
 use Rattle.grib_params.specs.declared.matching.TableMatch.{TableMatch}
@@ -12,6 +13,7 @@ use Rattle.grib2_message.specs.Fields.{part_octets, column_of}
 use Rattle.grib_reasons.specs.declared.demotion.Demotion.{Demotion}
 use Rattle.grib_reasons.specs.declared.demotion.Demotion.TheVariants.{LocalUse, EarthShape, GridFlags, RowList, Reference, TooLong}
 use Rattle.grib_demote.specs.Losses.{first_of, lost_where, loss_of, column_loss, field_losses, parameter_losses, time_losses, product_losses, form_losses, number_losses, shape_losses, value_losses, loses_product, loses_shape, loses_reference, reference_loss, coordinate_loss}
+use Rattle.grib_demote.proofs.Joining.{stated_grid, typed_grid}
 use Rattle.grib_demote.specs.Levels.{level_of}
 use Rattle.grib_demote.specs.Times.{unit_of, has_process, loses_interval}
 use Rattle.grib_demote.specs.Dates.{loses_date}
@@ -43,6 +45,7 @@ no_misfit (Some misfit) e = let no : ⊥ = cc in absurd no
 -- nothing of the templates, the parameter and the level
 pub record ParameterKept (table : Entries) (matching : TableMatch) (d : ℕ) (s1 s3 s4 : List ℕ) : Type 0 where
   pub product : loses_product s4 ≡ false
+  pub stated : is_opaque_grid s3 ≡ false
   pub template : is_none (type_of (grid_template s3)) ≡ false
   pub centre : loses_centre s1 ≡ false
   pub parameter : is_none (pair_in table matching d s1 s4) ≡ false
@@ -55,7 +58,7 @@ parameter_kept table matching d s1 s3 s4 e =
     let c = head_none _ _ b.1 in
     let p = head_none _ _ c.1 in
     let l = head_none _ _ p.1 in
-    record { product = not_lost _ _ a.0; template = not_lost _ _ b.0; centre = not_lost _ _ c.0; parameter = not_lost _ _ p.0; level = not_lost _ _ l.0 }
+    record { product = not_lost _ _ a.0; stated = stated_grid s3 (not_lost _ _ b.0); template = typed_grid s3 (not_lost _ _ b.0); centre = not_lost _ _ c.0; parameter = not_lost _ _ p.0; level = not_lost _ _ l.0 }
 
 -- nothing of the times
 pub record TimesKept (s1 s4 : List ℕ) : Type 0 where

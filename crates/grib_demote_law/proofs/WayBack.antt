@@ -8,7 +8,8 @@ use Rattle.grib_bits.proofs.OctetBits.{AreOctets}
 use Rattle.grib_bits.proofs.OctetNumbers.{octets-lt}
 use Rattle.grib2_sections.specs.Head.{discipline}
 use Rattle.grib2_grids.specs.Grid as grid2
-use Rattle.grib2_grids.specs.Grid.{grid_template}
+use Rattle.grib2_grids.specs.Whole.{IsWhole as IsWholeGrid}
+use Rattle.grib2_products.specs.Whole.{IsWhole as IsWholeProduct}
 use Rattle.grib2_products.specs.Product.{template_length, coordinate_count}
 use Rattle.grib2_products.specs.Spelled.{coordinate_list}
 use Rattle.grib2_message.specs.Fields.{part_octets}
@@ -33,6 +34,7 @@ use Rattle.grib_demote.specs.Grids.{is_listed, list_place}
 use Rattle.grib_demote.specs.Values as values1
 use Rattle.grib_demote.specs.Demoted.{demoted}
 use Rattle.grib_demote.proofs.Holding.{field_holds}
+use Rattle.grib_demote.proofs.Joining.{stated_product}
 use Rattle.grib_demote.specs.Held.{Holds}
 use Rattle.grib_demote_law.specs.Field.{MayBeDemoted}
 use Rattle.grib_demote_law.proofs.Losses.{Kept}
@@ -95,7 +97,13 @@ module _ (table : Entries) (matching : TableMatch) (keep any : Bool) (message : 
   part_small k = field_octets message i k (AreOctets-from_All message may.small)
 
   pub holds : Holds (part 1) (part 3) (part 4) (part 5)
-  holds = field_holds message i (accepted.passes table matching keep any message i may)
+  holds = field_holds message i (accepted.reads table matching keep any message i may)
+
+  pub grid_whole : IsWholeGrid (part 3)
+  grid_whole = holds.grid kept.product.stated
+
+  pub product_whole : IsWholeProduct (part 4)
+  product_whole = holds.product (stated_product (part 4) kept.product.product)
 
   pub sections : Rejoined (demoted table matching keep message i) (record { identification = a; grid = b; bitmap = accepted.c table matching keep any message i may; data_section = d })
   sections = rejoined (demoted table matching keep message i) _ (accepted.field_grammar table matching keep any message i may)
@@ -122,7 +130,7 @@ module _ (table : Entries) (matching : TableMatch) (keep any : Bool) (message : 
   pub word_small : (k : ℕ) → k < length words → get_or words k 0 < 2 ^ 32
   word_small k below =
       let long = length-numbers_at (part 4) (template_length (part 4) + 1) 4 (coordinate_count (part 4)) in
-      let whole = holds.product.long in
+      let whole = product_whole.long in
       let lt = numbers_at-lt (part 4) (template_length (part 4) + 1) 4 (coordinate_count (part 4)) (part_small 4) (omega arith) (omega arith) (omega arith) k (omega (arith, long, below)) in
       lt
 
@@ -130,7 +138,7 @@ module _ (table : Entries) (matching : TableMatch) (keep any : Bool) (message : 
   grid_back =
       let s3 = part 3 in
       is_back (length words) (list_place (length words) s3) (cond (is_listed s3) 65535 (grid2.ni s3)) (grid2.nj s3) (all_octets (coordinate_numbers words)) (numbers_octets 2 (grid2.row_list s3)) s3 (part_small 3)
-      kept.product.template holds.grid kept.shape.numbers
+      kept.product.template grid_whole kept.shape.numbers
 
   pub coordinates_back : coordinates1.coordinate_list b ≡ written_words words
   coordinates_back =

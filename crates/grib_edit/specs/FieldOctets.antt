@@ -4,12 +4,12 @@ use Rattle.std.proofs.Common.{◌≡◌, ◌≢◌, ℕ, zero, suc, ◌+◌, ◌
 use Rattle.std.specs.List.{concat, count_by}
 use Rattle.std.proofs.lemmas.Bool.{cases_eq}
 use Rattle.grib_base.specs.declared.limits.TheConstants.{MOST_OCTETS}
-use Rattle.grib_base.specs.declared.profile.Profile.TheVariants.{Stated}
+use Rattle.grib_base.specs.declared.profile.Profile.TheVariants.{Open}
 use Rattle.grib2_sections.specs.Frame.{Placed, placed_at, section_number}
 use Rattle.grib2_message.specs.View.{is_numbered, last_number}
 use Rattle.grib2_message.specs.Grammar.{AreSections}
 use Rattle.grib2_message.specs.Fields.{field_count}
-use Rattle.grib2_message.specs.Message.{IsMessage}
+use Rattle.grib2_message.specs.Message.{IsAnyMessage}
 use Rattle.grib2_message.proofs.Order.{Follows, next, skips, again, follows_tells}
 use Rattle.grib2_message.proofs.Parted.{message_parted, message_states, message_most}
 use Rattle.grib2_message.proofs.Placing.{placed_from}
@@ -48,7 +48,7 @@ ends_one last n l (next e low) seven long =
 ends_one last n l (skips a b) seven long = absurd (omega arith)
 ends_one last n l (again a b c) seven long = absurd (omega arith)
 
-twenty : (sections : List (List ℕ)) (q : ℕ) (before : List Placed) → AreSections Stated before q sections
+twenty : (sections : List (List ℕ)) (q : ℕ) (before : List Placed) → AreSections Open before q sections
     → 20 * count_by (is_numbered 7) (placed_from q sections) ≤ begun_octets (last_number before) + length (concat sections)
 twenty [] q before follow = omega arith
 twenty (s ∷ sections) q before follow =
@@ -62,17 +62,17 @@ twenty (s ∷ sections) q before follow =
     (λ other. (let none = goes_on (last_number before) (section_number s) (length s) follows other follow.0.least in omega (arith, count_none p rest other)))
     (cases_eq (section_number s) 7)
 
-pub twenty_each : (message : List ℕ) → IsMessage message → 20 * field_count message ≤ length message
+pub twenty_each : (message : List ℕ) → IsAnyMessage message → 20 * field_count message ≤ length message
 twenty_each message h =
-    let p = message_parted Stated message h in
+    let p = message_parted Open message h in
     let few = twenty p.sections 17 [] p.follow in
     let same : field_count message ≡ count_by (is_numbered 7) (placed_from 17 p.sections) = ap (count_by (is_numbered 7)) p.found in
-    omega (arith, p.ends, message_states Stated message h)
+    omega (arith, p.ends, message_states Open message h)
 
 -- ---- the octets of fields as messages of their own
 
-pub single_most : (message : List ℕ) (i : ℕ) → IsMessage message → 1 ≤ i → i ≤ field_count message → length (single_of message i) ≤ MOST_OCTETS
-single_most message i h low high = message_most Stated (single_of message i) (single_accepted message i h low high)
+pub single_most : (message : List ℕ) (i : ℕ) → IsAnyMessage message → 1 ≤ i → i ≤ field_count message → length (single_of message i) ≤ MOST_OCTETS
+single_most message i h low high = message_most Open (single_of message i) (single_accepted Open message i h low high)
 
 -- texts of at most as many octets as a message has, together
 pub texts_most : (text : ℕ → List ℕ) (n i : ℕ) → ((j : ℕ) → i ≤ j → j < i + n → length (text j) ≤ MOST_OCTETS) → length (texts_from text n i) ≤ MOST_OCTETS * n

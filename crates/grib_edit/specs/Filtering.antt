@@ -5,7 +5,7 @@ use Rattle.std.proofs.lemmas.Bool.{cases_Bool}
 use Rattle.grib_base.specs.Rows.{choose}
 use Rattle.grib_base.specs.declared.limits.TheConstants.{MOST_OCTETS}
 use Rattle.grib2_message.specs.Fields.{field_count}
-use Rattle.grib2_message.specs.Message.{IsMessage}
+use Rattle.grib2_message.specs.Message.{IsAnyMessage}
 use Rattle.grib_keys.specs.declared.wanted.Wanted.{Wanted}
 use Rattle.grib_select.specs.Values.{fulfils_all}
 use Rattle.grib_select.specs.Single.{single_of}
@@ -36,7 +36,7 @@ filter_command conditions = changing (λ place message. given_whole (filtered co
 
 -- ---- it is lawful
 
-few_if : (conditions : List Wanted) (message : List ℕ) (i : ℕ) → IsMessage message → 1 ≤ i → i ≤ field_count message
+few_if : (conditions : List Wanted) (message : List ℕ) (i : ℕ) → IsAnyMessage message → 1 ≤ i → i ≤ field_count message
     → length (single_if conditions message i) ≤ MOST_OCTETS
 few_if conditions message i h low high =
     ⊎_elim
@@ -45,7 +45,7 @@ few_if conditions message i h low high =
     (λ not. (let is : length (single_if conditions message i) ≡ 0 = ap (λ b. length (choose b (λ _. single_of message i) (λ _. []))) not in omega arith))
     (cases_Bool (fulfils_all message i conditions))
 
-few_filtered : (conditions : List Wanted) (message : List ℕ) → IsMessage message → 20 * length (filtered conditions message) ≤ MOST_OCTETS * length message
+few_filtered : (conditions : List Wanted) (message : List ℕ) → IsAnyMessage message → 20 * length (filtered conditions message) ≤ MOST_OCTETS * length message
 few_filtered conditions message h =
     let some : List ℕ = texts_from (single_if conditions message) (field_count message) 1 in
     ⊎_elim
@@ -55,7 +55,7 @@ few_filtered conditions message h =
     omega (arith, twenty_each message h)))
     (cases_Bool (all_fulfil conditions message))
 
-few_written : (conditions : List Wanted) (message : List ℕ) (acts : List Act) (written : ℕ) → IsMessage message
+few_written : (conditions : List Wanted) (message : List ℕ) (acts : List Act) (written : ℕ) → IsAnyMessage message
     → given_whole (filtered conditions message) ≡ Gives acts written → 20 * written ≤ MOST_OCTETS * length message
 few_written conditions message acts written h is =
     let few = few_filtered conditions message h in

@@ -1,22 +1,25 @@
 -- `repack to=least`: each message with each of its fields in the fewest octets.
 use Rattle.std.proofs.Common.{◌≤◌, None, length, arith}
 use Rattle.grib_base.specs.declared.limits.TheConstants.{MOST_OCTETS}
-use Rattle.grib_base.specs.declared.profile.Profile.TheVariants.{Stated}
+use Rattle.grib_base.specs.declared.profile.Profile.TheVariants.{Open}
 use Rattle.grib2_message.specs.Assembled.{assembled}
 use Rattle.grib2_message.proofs.Parted.{message_most}
 use Rattle.grib_least.specs.Least.{least, least_forms}
 use Rattle.grib_least.proofs.Kept.{no_longer}
-use Rattle.grib_command.specs.Command.{Command, IsLawfulCommand, changing_unless}
-use Rattle.grib_command.specs.LawfulCommands.{unless_lawful}
+use Rattle.grib_command.specs.Command.{Command, IsLawfulCommand, changing_unless, reading_values}
+use Rattle.grib_command.specs.LawfulCommands.{values_unless_lawful}
 
--- no message is kept
+-- no message whose values can be read is kept
+abbrev pub shrinking : Command
+shrinking = changing_unless (λ message. None) least
+
 abbrev pub least_command : Command
-least_command = changing_unless (λ message. None) least
+least_command = reading_values shrinking
 
 -- ---- it is lawful
 
 pub least_lawful : IsLawfulCommand least_command
-least_lawful = unless_lawful (λ message. None) least (λ message h none.
+least_lawful = values_unless_lawful (λ message. None) least (λ message h readable none.
     let shorter : length (least message) ≤ length message = no_longer message (assembled message (least_forms message)) in
-    let most : length message ≤ MOST_OCTETS = message_most Stated message h in
+    let most : length message ≤ MOST_OCTETS = message_most Open message h in
     omega (arith, shorter, most))

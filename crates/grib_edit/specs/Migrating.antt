@@ -41,6 +41,7 @@ migrate_command local table surfaces = record {
   ending = Written;
   uses_shelf = false;
   hears = false;
+  profile = Stated;
 }
 
 -- ---- it is lawful

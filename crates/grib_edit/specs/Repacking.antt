@@ -11,8 +11,8 @@ use Rattle.grib_repack.specs.Repacked as misfits
 use Rattle.grib_repack.specs.Repacked.{RepackMisfit, repacked, misfit_among, or_later, length_misfit, repack_misfit}
 use Rattle.grib_reasons.specs.declared.cause.Cause.{Cause}
 use Rattle.grib_reasons.specs.declared.cause.Cause.TheVariants.{SecondaryMissing, OutOfRange, DifferenceRange, OutputTooLong}
-use Rattle.grib_command.specs.Command.{Command, IsLawfulCommand, changing_unless}
-use Rattle.grib_command.specs.LawfulCommands.{unless_lawful, unmapped}
+use Rattle.grib_command.specs.Command.{Command, IsLawfulCommand, changing_unless, reading_values}
+use Rattle.grib_command.specs.LawfulCommands.{values_unless_lawful, unmapped}
 
 -- the misfit of a message as the cause that it is kept by
 abbrev pub cause_of : RepackMisfit → Cause
@@ -21,9 +21,13 @@ cause_of (misfits.OutOfRange field point) = OutOfRange field point
 cause_of (misfits.DifferenceRange field) = DifferenceRange field
 cause_of (misfits.OutputTooLong length) = OutputTooLong length
 
-abbrev pub repack_command : RepackTarget → Command
-repack_command target =
+-- of messages whose values can be read
+abbrev pub repacking : RepackTarget → Command
+repacking target =
     changing_unless (λ message. option_map cause_of (repack_misfit (target_of target) message)) (repacked (target_of target))
+
+abbrev pub repack_command : RepackTarget → Command
+repack_command target = reading_values (repacking target)
 
 -- ---- it is lawful
 
@@ -46,4 +50,4 @@ few_repacked target message none =
     (later_none (misfit_among target message (range_with_len 1 (field_count message))) (λ _. length_misfit (length (repacked target message))) none)
 
 pub repack_lawful : (target : RepackTarget) → IsLawfulCommand (repack_command target)
-repack_lawful target = unless_lawful _ _ (λ message h none. few_repacked (target_of target) message (unmapped cause_of (repack_misfit (target_of target) message) none))
+repack_lawful target = values_unless_lawful _ _ (λ message h readable none. few_repacked (target_of target) message (unmapped cause_of (repack_misfit (target_of target) message) none))

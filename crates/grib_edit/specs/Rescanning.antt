@@ -17,8 +17,8 @@ use Rattle.grib_reasons.specs.declared.cause.Cause.{Cause}
 use Rattle.grib_reasons.specs.declared.cause.Cause.TheVariants as causes
 use Rattle.grib_command.specs.declared.answered.Answered.{Answered}
 use Rattle.grib_command.specs.declared.answered.Answered.TheVariants.{Kept, Memory}
-use Rattle.grib_command.specs.Command.{Command, IsLawfulCommand, changing_unless}
-use Rattle.grib_command.specs.LawfulCommands.{unless_lawful, unmapped}
+use Rattle.grib_command.specs.Command.{Command, IsLawfulCommand, changing_unless, reading_values}
+use Rattle.grib_command.specs.LawfulCommands.{values_unless_lawful, unmapped}
 
 -- the misfit of a message as the cause that it is kept by
 abbrev pub edit_cause : EditMisfit → Cause
@@ -31,8 +31,12 @@ edit_cause (OfColumn field (packing.OutOfRange point)) = causes.OutOfRange field
 edit_cause (OfColumn field packing.DifferenceRange) = causes.DifferenceRange field
 edit_cause (TooLong length) = causes.OutputTooLong length
 
+-- of messages whose values can be read
+abbrev pub editing : GridEdit → Command
+editing edit = changing_unless (λ message. option_map edit_cause (edit_misfit edit message)) (edited edit)
+
 abbrev pub edit_command : GridEdit → Command
-edit_command edit = changing_unless (λ message. option_map edit_cause (edit_misfit edit message)) (edited edit)
+edit_command edit = reading_values (editing edit)
 
 -- what comes of a message that is not edited
 abbrev pub answered_unedited : RescanFault → Answered
@@ -72,4 +76,4 @@ few_of edit message none =
     (later_none (misfit_among edit message (range_with_len 1 (field_count message))) (λ _. length_misfit (length (edited edit message))) none)
 
 pub edit_lawful : (edit : GridEdit) → IsLawfulCommand (edit_command edit)
-edit_lawful edit = unless_lawful _ _ (λ message h none. few_of edit message (unmapped edit_cause (edit_misfit edit message) none))
+edit_lawful edit = values_unless_lawful _ _ (λ message h readable none. few_of edit message (unmapped edit_cause (edit_misfit edit message) none))

@@ -1,6 +1,6 @@
 -- `set`: each message with new values of some keys.
 use Rattle.std.proofs.Common.{Option, Some, None, List, All, IsTrue}
-use Rattle.grib_base.specs.declared.profile.Profile.TheVariants.{Stated}
+use Rattle.grib_base.specs.declared.profile.Profile.TheVariants.{Open}
 use Rattle.grib2_message.proofs.Parted.{message_most}
 use Rattle.grib_keys.specs.declared.condition.Change.{Change}
 use Rattle.grib_keys.specs.Keys.{can_set}
@@ -27,4 +27,4 @@ set_command changes = changing_unless (λ message. set_cause (set_fault message 
 
 pub set_lawful : (changes : List Change) → All (λ c. IsTrue (can_set c.key)) changes → IsLawfulCommand (set_command changes)
 set_lawful changes can =
-    unless_lawful _ _ (λ message h none. message_most Stated (with_keys message changes) (changed_accepted message changes h (can_be_set changes can)))
+    unless_lawful _ _ (λ message h none. message_most Open (with_keys message changes) (changed_accepted Open message changes h (can_be_set changes can)))

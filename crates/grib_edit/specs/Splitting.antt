@@ -1,7 +1,7 @@
 -- `split`: each field as a message of its own, on the shelf.
 use Rattle.std.proofs.Common.{◌≡◌, ℕ, ◌*◌, ◌≤◌, true, List, length, arith}
 use Rattle.grib_base.specs.declared.limits.TheConstants.{MOST_OCTETS}
-use Rattle.grib2_message.specs.Message.{IsMessage}
+use Rattle.grib2_message.specs.Message.{IsAnyMessage}
 use Rattle.grib_stream.specs.declared.outcome.Outcome.{Outcome}
 use Rattle.grib_stream.specs.Acts.{Act}
 use Rattle.grib_stream.specs.Outcomes.{is_of_message}
@@ -20,7 +20,7 @@ split_command name = record (changing (λ place message. given_parts (parts_of n
 
 -- ---- it is lawful
 
-few_written : (name : List ℕ) (before : ℕ) (message : List ℕ) (acts : List Act) (written : ℕ) → IsMessage message
+few_written : (name : List ℕ) (before : ℕ) (message : List ℕ) (acts : List Act) (written : ℕ) → IsAnyMessage message
     → given_parts (parts_of name before message) ≡ Gives acts written → 20 * written ≤ MOST_OCTETS * length message
 few_written name before message acts written h is =
     let few = parts_few name before message h in

@@ -7,12 +7,12 @@ ghost use Rattle.grib_command.specs.Answering.{AnswersByOutput};
 ghost use Rattle.grib_command.specs.Command as commands;
 ghost use Rattle.grib_command.specs.Command.{IsLawfulCommand};
 
-use grib_command::{Answered, Ending, Writer};
+use grib_command::{Answered, Ending, Writer, unreadable};
 use grib_io::Sink;
 use grib_stream::{Cause, Place};
 use grib1_sections::Message1;
 use grib2_arrival::Arrival;
-use grib2_message::Message;
+use grib2_message::{Message, ReadableMessage};
 use std::alloc::Global;
 
 /// Makes something else of messages of edition 2.
@@ -26,6 +26,41 @@ pub trait Changer {
             (gives self.now place message.now) output.old output.new };
 
     ghost lawful: { (changer : Self) → IsLawfulCommand (commands.changing (gives changer)) };
+}
+
+/// Makes something else of messages of edition 2 whose values can be read.
+pub trait ValueChanger {
+    /// What such a message at a place gives.
+    ghost gives: { Self → AtPlace → List ℕ → Given };
+
+    /// Writes what is made of a message, or leaves it unchanged, wherever it stands.
+    fn change_values<T: Sink>(
+        &self,
+        alloc: Global,
+        message: &ReadableMessage<'_>,
+        output: &mut T,
+    ) -> Answered
+        ensures { (place : AtPlace) → AnswersByOutput T.contents T.faults T.settled result place.message
+            (gives self.now place message.now) output.old output.new };
+
+    ghost lawful: { (changer : Self) → IsLawfulCommand (commands.changing (commands.of_values (gives changer))) };
+}
+
+/// What changes messages by their values. A message whose values cannot be read is not changed.
+#[derive(Debug, Drop)]
+pub struct OfValues<C>(pub C);
+
+impl<C: ValueChanger> Changer for OfValues<C> {
+    ghost gives = { λ of_values. commands.of_values (C.gives of_values.0) };
+
+    ghost lawful = { λ of_values. C.lawful of_values.0 };
+
+    fn change<T: Sink>(&self, alloc: Global, message: &Message<'_>, output: &mut T) -> Answered {
+        match ReadableMessage::of(message) {
+            Ok(message) => self.0.change_values(alloc, &message, output),
+            Err(opaque) => unreadable(opaque),
+        }
+    }
 }
 
 /// The command of what changes messages of edition 2. Those of edition 1 are not changed.

@@ -3,17 +3,19 @@
 ghost use Rattle.std.specs.Prelude.{◌≡◌, ◌≤◌, ◌++◌, None, MatchResult};
 ghost use Rattle.grib2_message.specs.Fields.{field_count};
 ghost use Rattle.grib_demote.specs.Demoted.{demoted, first_loss};
+ghost use Rattle.grib_stream.specs.declared.place.Place.{Place as AtPlace};
+ghost use Rattle.grib_command.specs.Answering.{AnswersByOutput};
 ghost use Rattle.grib_edit.specs.Unchanged.{answered_undemoted, IsKept};
-ghost use Rattle.grib_edit.specs.Demoting.{field_cause, demoted_cause, demoted_fields};
+ghost use Rattle.grib_edit.specs.Demoting.{field_cause, demoted_cause, demoted_fields, demoted_given};
 
-use grib_command::{Answered, Ending, Writer, write_counted, written};
+use grib_command::{Answered, Ending, Writer, unreadable, write_counted, written};
 use grib_demote::{DemoteFault, demote};
 use grib_io::Sink;
 use grib_params::{Table, TableMatch};
 use grib_stream::{Cause, Place};
 use grib1_sections::Message1;
 use grib2_arrival::Arrival;
-use grib2_message::Message;
+use grib2_message::{Message, ReadableMessage};
 use std::alloc::Global;
 
 /// The command `demote`.
@@ -56,9 +58,9 @@ impl Writer for Demoting<'_> {
         message: &Message<'_>,
         output: &mut T,
     ) -> Answered {
-        match demote_fields(alloc, message, self) {
-            Ok(octets) => written(write_counted(output, octets.as_slice())),
-            Err(answered) => answered,
+        match ReadableMessage::of(message) {
+            Ok(message) => write_demoted(alloc, &message, self, output),
+            Err(opaque) => unreadable(opaque),
         }
     }
 
@@ -82,10 +84,28 @@ impl Writer for Demoting<'_> {
     }
 }
 
+/// Writes the messages of edition 1 of the fields of a message whose values can be read, or leaves it
+/// unchanged, wherever it stands.
+fn write_demoted<T: Sink>(
+    alloc: Global,
+    message: &ReadableMessage<'_>,
+    demoting: &Demoting<'_>,
+    output: &mut T,
+) -> Answered
+    ensures { (place : AtPlace) → AnswersByOutput T.contents T.faults T.settled result place.message
+        (demoted_given demoting.now.matching demoting.now.keep_local demoting.now.any_earth demoting.now.table.now place message.now)
+        output.old output.new }
+{
+    match demote_fields(alloc, message, demoting) {
+        Ok(octets) => written(write_counted(output, octets.as_slice())),
+        Err(answered) => answered,
+    }
+}
+
 /// The messages of edition 1 of all fields, one after another, or what comes of the message.
 fn demote_fields(
     alloc: Global,
-    message: &Message<'_>,
+    message: &ReadableMessage<'_>,
     demoting: &Demoting<'_>,
 ) -> Result<Vec<u8>, Answered>
     ensures { MatchResult result
@@ -104,7 +124,7 @@ fn demote_fields(
 /// Adds the message of edition 1 of a field, or says what comes of the message.
 fn demote_field(
     alloc: Global,
-    message: &Message<'_>,
+    message: &ReadableMessage<'_>,
     field: u32,
     demoting: &Demoting<'_>,
     out: &mut Vec<u8>,

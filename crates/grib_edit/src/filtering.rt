@@ -2,7 +2,7 @@
 
 ghost use Rattle.std.specs.Prelude.{◌≡◌, ◌≤◌, length, IfOk};
 ghost use Rattle.grib2_message.specs.Fields.{field_count};
-ghost use Rattle.grib2_message.specs.Message.{IsMessage};
+ghost use Rattle.grib2_message.specs.Message.{IsAnyMessage};
 ghost use Rattle.grib_select.specs.Values.{fulfils_all};
 ghost use Rattle.grib_edit.specs.Fronts.{IsFront};
 ghost use Rattle.grib_command.specs.Pending.{WritesTo};
@@ -78,7 +78,7 @@ fn write_matching<T: Sink>(
     front: u32,
     output: &mut T,
 ) -> Result<u64, Stop>
-    requires message { IsMessage message.now }
+    requires message { IsAnyMessage message.now }
     requires front { IsFront conditions.now message.now front }
     ensures writes { WritesTo T.contents T.faults T.settled result output.old output.new
         (texts_from (single_if conditions.now message.now) (field_count message.now) 1) }
@@ -102,7 +102,7 @@ fn write_if_matching<T: Sink>(
     field: u32,
     output: &mut T,
 ) -> Result<u64, Stop>
-    requires message { IsMessage message.now }
+    requires message { IsAnyMessage message.now }
     requires front { IsFront conditions.now message.now front }
     requires first { 1 ≤ field }
     requires last { field ≤ field_count message.now }

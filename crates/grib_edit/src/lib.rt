@@ -12,7 +12,7 @@ mod setting;
 mod shrinking;
 mod splitting;
 
-pub use changing::{Changer, Changing};
+pub use changing::{Changer, Changing, OfValues, ValueChanger};
 pub use demoting::Demoting;
 pub use filtering::Filtering;
 pub use migrating::Migrating;

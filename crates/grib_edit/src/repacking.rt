@@ -4,12 +4,12 @@ ghost use Rattle.std.specs.Prelude.{◌≡◌, true};
 ghost use Rattle.grib_edit.specs.Unchanged.{answered_by};
 ghost use Rattle.grib_command.specs.Jobs.{is_target};
 
-use crate::changing::Changer;
+use crate::changing::ValueChanger;
 use grib_command::{Answered, write_counted, written};
 use grib_io::Sink;
 use grib_repack::{RepackFault, RepackTarget, repack};
 use grib_stream::Cause;
-use grib2_message::Message;
+use grib2_message::ReadableMessage;
 use std::alloc::Global;
 
 /// The command `repack`.
@@ -20,14 +20,19 @@ pub struct Repacking {
     pub ghost target_stands: { is_target target ≡ true },
 }
 
-impl Changer for Repacking {
-    ghost use Rattle.grib_edit.specs.Repacking.{repack_command, repack_lawful};
+impl ValueChanger for Repacking {
+    ghost use Rattle.grib_edit.specs.Repacking.{repacking, repack_lawful};
 
-    ghost gives = { λ repacking. (repack_command repacking.target).second };
+    ghost gives = { λ repacking_by. (repacking repacking_by.target).second };
 
     ghost lawful = { λ repacking. repack_lawful repacking.target };
 
-    fn change<T: Sink>(&self, alloc: Global, message: &Message<'_>, output: &mut T) -> Answered {
+    fn change_values<T: Sink>(
+        &self,
+        alloc: Global,
+        message: &ReadableMessage<'_>,
+        output: &mut T,
+    ) -> Answered {
         match repack(alloc, message, self.target) {
             Ok(packed) => written(write_counted(output, packed.as_slice())),
             Err(fault) => kept_by(fault),

@@ -4,12 +4,12 @@ ghost use Rattle.std.specs.Prelude.{◌≡◌};
 ghost use Rattle.grib_reorder.specs.Rescanned.{Stands};
 ghost use Rattle.grib_edit.specs.Rescanning.{answered_unedited, Stands-prop};
 
-use crate::changing::Changer;
+use crate::changing::ValueChanger;
 use grib_command::{Answered, write_counted, written};
 use grib_io::Sink;
 use grib_reorder::{GridEdit, RescanFault, edit_message};
 use grib_stream::Cause;
-use grib2_message::Message;
+use grib2_message::ReadableMessage;
 use std::alloc::Global;
 
 /// The commands `rescan` and `crop`.
@@ -20,14 +20,19 @@ pub struct Rescanning {
     pub ghost edit_stands: { Stands edit } by { Stands-prop edit },
 }
 
-impl Changer for Rescanning {
-    ghost use Rattle.grib_edit.specs.Rescanning.{edit_command, edit_lawful};
+impl ValueChanger for Rescanning {
+    ghost use Rattle.grib_edit.specs.Rescanning.{editing, edit_lawful};
 
-    ghost gives = { λ rescanning. (edit_command rescanning.edit).second };
+    ghost gives = { λ rescanning. (editing rescanning.edit).second };
 
     ghost lawful = { λ rescanning. edit_lawful rescanning.edit };
 
-    fn change<T: Sink>(&self, alloc: Global, message: &Message<'_>, output: &mut T) -> Answered {
+    fn change_values<T: Sink>(
+        &self,
+        alloc: Global,
+        message: &ReadableMessage<'_>,
+        output: &mut T,
+    ) -> Answered {
         match edit_message(alloc, message, &self.edit) {
             Ok(edited) => written(write_counted(output, edited.as_slice())),
             Err(fault) => unedited(fault),

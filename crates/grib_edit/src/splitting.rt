@@ -3,7 +3,7 @@
 ghost use Rattle.std.specs.Prelude.{◌≡◌, ℕ, ◌+◌, ◌*◌, ◌≤◌, ◌^◌, string_bytes, length, IfOk};
 ghost use Rattle.grib_io.specs.Outside.{CountsStops};
 ghost use Rattle.grib2_message.specs.Fields.{field_count};
-ghost use Rattle.grib2_message.specs.Message.{IsMessage};
+ghost use Rattle.grib2_message.specs.Message.{IsAnyMessage};
 ghost use Rattle.grib_select.specs.Single.{single_of};
 ghost use Rattle.grib_stream.specs.Task.{Gives};
 ghost use Rattle.grib_command.specs.Answering.{AnswersByShelf};
@@ -133,7 +133,7 @@ fn put_field<H: Shelf>(
     field: u32,
     shelf: &mut H,
 ) -> Result<u64, Stop>
-    requires message { IsMessage message.now }
+    requires message { IsAnyMessage message.now }
     requires before { before ≤ 2 ^ 41 }
     requires first { 1 ≤ field }
     requires last { field ≤ field_count message.now }

@@ -10,11 +10,12 @@ ghost use Rattle.grib_run_spec.specs.Tasks.{IfReads, work_of};
 use grib_command::{Answered, ByOutput, Job};
 use grib_dispatch::{Held, answer_held};
 use grib_edit::{
-    Changing, Demoting, Filtering, Migrating, Repacking, Rescanning, Setting, Shrinking, Splitting,
+    Changing, Demoting, Filtering, Migrating, OfValues, Repacking, Rescanning, Setting, Shrinking,
+    Splitting,
 };
 use grib_io::{Shelf, Sink};
 use grib_reorder::GridEdit;
-use grib_report::{Checking, Dumping, Keying, Listing, Printing, Summing, Valuing};
+use grib_report::{Checking, Dumping, Keying, Listing, Printing, PrintingValues, Summing, Valuing};
 use grib_stream::Place;
 use grib_table::Tables;
 use grib_values::Arraying;
@@ -58,7 +59,7 @@ pub fn answer_message<T: Sink, H: Shelf>(
             shelf,
         ),
         Job::Stats => answer_held(
-            &ByOutput(Printing(Summing)),
+            &ByOutput(PrintingValues(Summing)),
             alloc,
             place,
             held,
@@ -67,7 +68,7 @@ pub fn answer_message<T: Sink, H: Shelf>(
         ),
         Job::Dump { decimals: None } => {
             answer_held(
-                &ByOutput(Printing(Dumping)),
+                &ByOutput(PrintingValues(Dumping)),
                 alloc,
                 place,
                 held,
@@ -91,7 +92,7 @@ pub fn answer_message<T: Sink, H: Shelf>(
         Job::Values(format) => {
             let format = *format;
             answer_held(
-                &ByOutput(Printing(Arraying { format })),
+                &ByOutput(PrintingValues(Arraying { format })),
                 alloc,
                 place,
                 held,
@@ -125,7 +126,7 @@ pub fn answer_message<T: Sink, H: Shelf>(
         Job::Repack(target) => {
             let target = *target;
             answer_held(
-                &ByOutput(Changing(Repacking { target })),
+                &ByOutput(Changing(OfValues(Repacking { target }))),
                 alloc,
                 place,
                 held,
@@ -134,7 +135,7 @@ pub fn answer_message<T: Sink, H: Shelf>(
             )
         }
         Job::RepackLeast => answer_held(
-            &ByOutput(Changing(Shrinking)),
+            &ByOutput(Changing(OfValues(Shrinking))),
             alloc,
             place,
             held,
@@ -144,7 +145,7 @@ pub fn answer_message<T: Sink, H: Shelf>(
         Job::Rescan => {
             let edit = GridEdit::Rescan;
             answer_held(
-                &ByOutput(Changing(Rescanning { edit })),
+                &ByOutput(Changing(OfValues(Rescanning { edit }))),
                 alloc,
                 place,
                 held,
@@ -155,7 +156,7 @@ pub fn answer_message<T: Sink, H: Shelf>(
         Job::Crop(area) => {
             let edit = GridEdit::Crop(*area);
             answer_held(
-                &ByOutput(Changing(Rescanning { edit })),
+                &ByOutput(Changing(OfValues(Rescanning { edit }))),
                 alloc,
                 place,
                 held,

@@ -10,6 +10,7 @@ mod serving;
 
 pub use answering::answer_message;
 pub use closing::{close, close_with_note};
+pub use grib_base::Profile;
 pub use grib_command::{
     Answered, Answerer, ByOutput, Changes, Conditions, Ending, Job, Name, Page,
 };
@@ -20,4 +21,5 @@ pub use grib_report::Checking;
 pub use grib_rescan::Area;
 pub use grib_select::{Change, Choice, Choices, Key, Test, Value, Wanted};
 pub use grib_stream::{Cause, Kept, Outcome, Place, Totals};
+pub use making::write_noted;
 pub use serving::{end_at_once, end_without_memory, serve, serve_under};

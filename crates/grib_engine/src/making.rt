@@ -19,7 +19,7 @@ ghost use Rattle.grib_run_spec.specs.Tasks.{Makes, writing, made_answer};
 ghost use Rattle.grib_engine.specs.Beside.{beside};
 
 use crate::closing::close_with_note;
-use grib_base::ReadFault;
+use grib_base::{Profile, ReadFault};
 use grib_command::{made_note, write_whole};
 use grib_io::{Sink, Stop};
 use grib_repack::{RepackFault, RepackTarget, repack};
@@ -29,7 +29,8 @@ use grib_synthetic::laws::{
     what_is_made_stays_short,
 };
 use grib_synthetic::{made_message, made_summary};
-use grib2_message::read_message;
+use grib2_message::laws::field_holds;
+use grib2_message::{Message, ReadableMessage, read_message};
 use std::alloc::{AllocError, Global};
 
 /// A message that was made and packed anew, and the note on it.
@@ -68,8 +69,8 @@ pub(crate) fn serve_made<T: Sink, N: Sink>(
     }
 }
 
-/// Writes these octets, and ends a run with this note.
-pub(crate) fn write_noted<T: Sink, N: Sink>(
+/// Writes these octets, and ends a run with this note. Nothing is read.
+pub fn write_noted<T: Sink, N: Sink>(
     alloc: Global,
     octets: &[u8],
     note: &[u8],
@@ -158,12 +159,12 @@ fn repack_whole(alloc: Global, octets: &[u8], target: RepackTarget) -> Result<Ve
     requires fits { repack_misfit (target_of target) octets.now ≡ None }
     ensures { IfOk result (λ packed. packed.items ≡ repacked (target_of target) octets.now) }
 {
-    let message = match read_message(alloc, octets) {
+    let message = match read_message(alloc, Profile::Stated, octets) {
         Ok(message) => message,
         Err(ReadFault::Memory) => return Err(AllocError),
         Err(ReadFault::Refused(_)) => unreachable!(),
     };
-    match repack(alloc, &message, target) {
+    match repack(alloc, &readable(&message), target) {
         Ok(packed) => Ok(packed),
         Err(RepackFault::Memory) => Err(AllocError),
         Err(
@@ -172,5 +173,17 @@ fn repack_whole(alloc: Global, octets: &[u8], target: RepackTarget) -> Result<Ve
             | RepackFault::DifferenceRange { .. }
             | RepackFault::OutputTooLong(_),
         ) => unreachable!(),
+    }
+}
+
+/// A message that the stated profile accepts, whose values can be read.
+fn readable<'a>(message: &'a Message<'a>) -> ReadableMessage<'a>
+    requires { IsMessage message.now }
+    ensures { result ≡ message.now }
+{
+    field_holds();
+    match ReadableMessage::of(message) {
+        Ok(readable) => readable,
+        Err(_opaque) => unreachable!(),
     }
 }

@@ -3,7 +3,7 @@
 ghost use Rattle.std.specs.Prelude.{◌≡◌, ◌||◌, true, false, None};
 ghost use Rattle.grib_stream.specs.Soon.{RefusesSoon};
 ghost use Rattle.grib_items.specs.Laws.{nothing};
-ghost use Rattle.grib_command.specs.Command.{task};
+ghost use Rattle.grib_command.specs.Command.{task, under};
 ghost use Rattle.grib_dispatch.specs.Hearing.{is_second};
 ghost use Rattle.grib_io.specs.Shelves.{Stays};
 ghost use Rattle.grib_run_spec.specs.Seen.{seen};
@@ -15,6 +15,7 @@ ghost use Rattle.grib_engine.specs.Untabled.{outcome_untabled};
 
 use crate::closing::close_with_note;
 use crate::ending::close_at_end;
+use grib_base::Profile;
 use grib_command::{Answerer, ByOutput, Name};
 use grib_dispatch::Answering;
 use grib_edit::{Demoting, Migrating};
@@ -26,10 +27,11 @@ use grib_stream::{LIMIT, Outcome};
 use grib_table::{Tables, TablesStop, read_tables};
 use std::alloc::Global;
 
-/// Answers the messages of the input, and notes how the run ended.
+/// Answers the messages of the input, those of edition 2 by the profile, and notes how the run ended.
 pub(crate) fn serve_messages<C: Answerer, S: Source, T: Sink, N: Sink, H: Shelf>(
     answerer: &C,
     alloc: Global,
+    profile: Profile,
     policy: Policy,
     input: &mut S,
     output: &mut T,
@@ -37,13 +39,13 @@ pub(crate) fn serve_messages<C: Answerer, S: Source, T: Sink, N: Sink, H: Shelf>
     shelf: &mut H,
 ) -> Outcome
     ensures serves { let see = seen S.left S.faults T.contents T.faults T.settled N.contents N.faults N.settled H.contents H.faults in
-        Serves (T.takes_memory || N.takes_memory) (Reads (C.definition answerer.now)) policy result
+        Serves (T.takes_memory || N.takes_memory) (Reads (under profile (C.definition answerer.now))) policy result
         (see input.old output.old notes.old shelf.old) (see input.new output.new notes.new shelf.new) }
     ensures soon { policy ≡ nothing → (C.definition answerer.now).hears ≡ true
-        → RefusesSoon is_second (task (C.definition answerer.now)) result (S.left input.old) (S.left input.new) }
+        → RefusesSoon is_second (task (under profile (C.definition answerer.now))) result (S.left input.old) (S.left input.new) }
     ensures unused { (C.definition answerer.now).uses_shelf ≡ false → shelf.new ≡ shelf.old }
 {
-    let answering = Answering { answerer };
+    let answering = Answering { answerer, profile };
     match answer_items(
         &answering, alloc, policy, LIMIT, input, output, notes, shelf,
     ) {
@@ -58,6 +60,7 @@ pub(crate) fn serve_migrated<S: Source, T: Sink, N: Sink, H: Shelf>(
     params: &Name,
     surfaces: &Option<Name>,
     local: Local,
+    profile: Profile,
     policy: Policy,
     input: &mut S,
     output: &mut T,
@@ -65,9 +68,9 @@ pub(crate) fn serve_migrated<S: Source, T: Sink, N: Sink, H: Shelf>(
     shelf: &mut H,
 ) -> Outcome
     ensures serves { let see = seen S.left S.faults T.contents T.faults T.settled N.contents N.faults N.settled H.contents H.faults in
-        Serves (T.takes_memory || N.takes_memory) (AsksTables params.now surfaces.now (migrating local)) policy result
+        Serves (T.takes_memory || N.takes_memory) (AsksTables params.now surfaces.now (λ tables. under profile (migrating local tables))) policy result
         (see input.old output.old notes.old shelf.old) (see input.new output.new notes.new shelf.new) }
-    ensures unread { IfUnread (AsksTables params.now surfaces.now (migrating local)) (H.contents shelf.old)
+    ensures unread { IfUnread (AsksTables params.now surfaces.now (λ tables. under profile (migrating local tables))) (H.contents shelf.old)
         (input.new ≡ input.old) }
 {
     match tables_named(alloc, params, surfaces, shelf) {
@@ -77,7 +80,9 @@ pub(crate) fn serve_migrated<S: Source, T: Sink, N: Sink, H: Shelf>(
                 surfaces: &tables.surfaces,
                 local,
             });
-            serve_messages(&migrating, alloc, policy, input, output, notes, shelf)
+            serve_messages(
+                &migrating, alloc, profile, policy, input, output, notes, shelf,
+            )
         }
         Err(stop) => close_with_note(alloc, untabled(stop), b"", output, notes),
     }
@@ -90,6 +95,7 @@ pub(crate) fn serve_demoted<S: Source, T: Sink, N: Sink, H: Shelf>(
     matching: TableMatch,
     keep_local: bool,
     any_earth: bool,
+    profile: Profile,
     policy: Policy,
     input: &mut S,
     output: &mut T,
@@ -97,9 +103,9 @@ pub(crate) fn serve_demoted<S: Source, T: Sink, N: Sink, H: Shelf>(
     shelf: &mut H,
 ) -> Outcome
     ensures serves { let see = seen S.left S.faults T.contents T.faults T.settled N.contents N.faults N.settled H.contents H.faults in
-        Serves (T.takes_memory || N.takes_memory) (AsksTables params.now None (demoting matching keep_local any_earth)) policy result
+        Serves (T.takes_memory || N.takes_memory) (AsksTables params.now None (λ tables. under profile (demoting matching keep_local any_earth tables))) policy result
         (see input.old output.old notes.old shelf.old) (see input.new output.new notes.new shelf.new) }
-    ensures unread { IfUnread (AsksTables params.now None (demoting matching keep_local any_earth)) (H.contents shelf.old)
+    ensures unread { IfUnread (AsksTables params.now None (λ tables. under profile (demoting matching keep_local any_earth tables))) (H.contents shelf.old)
         (input.new ≡ input.old) }
 {
     match tables_named(alloc, params, &None, shelf) {
@@ -110,7 +116,9 @@ pub(crate) fn serve_demoted<S: Source, T: Sink, N: Sink, H: Shelf>(
                 keep_local,
                 any_earth,
             });
-            serve_messages(&demoting, alloc, policy, input, output, notes, shelf)
+            serve_messages(
+                &demoting, alloc, profile, policy, input, output, notes, shelf,
+            )
         }
         Err(stop) => close_with_note(alloc, untabled(stop), b"", output, notes),
     }

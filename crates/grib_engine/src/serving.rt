@@ -1,6 +1,7 @@
 //! A whole run: the messages of the input are answered, or one is made, and the run is brought to its end.
 
 ghost use Rattle.std.specs.Prelude.{◌≡◌, ◌⊎◌, ◌||◌, false};
+ghost use Rattle.grib_base.specs.declared.profile.Profile.TheVariants.{Stated};
 ghost use Rattle.grib_stream.specs.Outcomes.{is_broken};
 ghost use Rattle.grib_stream.specs.declared.outcome.Outcome.TheVariants.{Memory, WriteFault};
 ghost use Rattle.grib_items.specs.Laws.{nothing};
@@ -9,17 +10,20 @@ ghost use Rattle.grib_command.specs.Jobs.{IsJob};
 ghost use Rattle.grib_dispatch.specs.Hearing.{RefusesInTime};
 ghost use Rattle.grib_run_spec.specs.Seen.{seen};
 ghost use Rattle.grib_run_spec.specs.Serving.{Serves, IfUnread};
-ghost use Rattle.grib_run_spec.specs.Tasks.{Work, Makes, IfHears, ends_at_once, work_of, uses_shelf};
+ghost use Rattle.grib_run_spec.specs.Tasks.{Work, Makes, IfHears, ends_at_once, has_shelf, uses_shelf, work_of, work_under};
 
 use crate::closing::close_with_note;
 use crate::making::{serve_made, write_noted};
 use crate::reading::{serve_demoted, serve_messages, serve_migrated};
+use grib_base::Profile;
 use grib_command::{ByOutput, Job};
-use grib_edit::{Changing, Filtering, Repacking, Rescanning, Setting, Shrinking, Splitting};
+use grib_edit::{
+    Changing, Filtering, OfValues, Repacking, Rescanning, Setting, Shrinking, Splitting,
+};
 use grib_io::{Shelf, Sink, Source};
 use grib_items::Policy;
 use grib_reorder::GridEdit;
-use grib_report::{Checking, Dumping, Keying, Listing, Printing, Summing, Valuing};
+use grib_report::{Checking, Dumping, Keying, Listing, Printing, PrintingValues, Summing, Valuing};
 use grib_stream::Outcome;
 use grib_values::Arraying;
 use std::alloc::Global;
@@ -42,7 +46,7 @@ pub fn serve<S: Source, T: Sink, N: Sink, H: Shelf>(
     ensures serves { let see = seen S.left S.faults T.contents T.faults T.settled N.contents N.faults N.settled H.contents H.faults in
         Serves (T.takes_memory || N.takes_memory) (work_of job.now) nothing result
         (see input.old output.old notes.old shelf.old) (see input.new output.new notes.new shelf.new) }
-    ensures soon { IfHears job.now (RefusesInTime result (S.left input.old) (S.left input.new)) }
+    ensures soon { IfHears job.now (RefusesInTime Stated result (S.left input.old) (S.left input.new)) }
     ensures unread { IfUnread (work_of job.now) (H.contents shelf.old) (input.new ≡ input.old) }
     ensures unused { uses_shelf job.now ≡ false → shelf.new ≡ shelf.old }
 {
@@ -50,15 +54,25 @@ pub fn serve<S: Source, T: Sink, N: Sink, H: Shelf>(
         refused: None,
         kept: None,
     };
-    serve_under(alloc, job, policy, input, output, notes, shelf)
+    serve_under(
+        alloc,
+        job,
+        Profile::Stated,
+        policy,
+        input,
+        output,
+        notes,
+        shelf,
+    )
 }
 
 /// Writes the answer to the job to `output`, as `serve` does, but goes past octets that are refused and past messages
-/// that cannot be changed, as `policy` says, and notes a line of each. Under a policy that goes
+/// that cannot be changed, as `policy` says, and notes a line of each. Messages of edition 2 are accepted by `profile`. Under a policy that goes
 /// past anything no message is heard. `make` and the pages have nothing to go past.
 pub fn serve_under<S: Source, T: Sink, N: Sink, H: Shelf>(
     alloc: Global,
     job: &Job,
+    profile: Profile,
     policy: Policy,
     input: &mut S,
     output: &mut T,
@@ -67,81 +81,114 @@ pub fn serve_under<S: Source, T: Sink, N: Sink, H: Shelf>(
 ) -> Outcome
     requires { IsJob job.now }
     ensures serves { let see = seen S.left S.faults T.contents T.faults T.settled N.contents N.faults N.settled H.contents H.faults in
-        Serves (T.takes_memory || N.takes_memory) (work_of job.now) policy result
+        Serves (T.takes_memory || N.takes_memory) (work_under profile job.now) policy result
         (see input.old output.old notes.old shelf.old) (see input.new output.new notes.new shelf.new) }
-    ensures soon { policy ≡ nothing → IfHears job.now (RefusesInTime result (S.left input.old) (S.left input.new)) }
-    ensures unread { IfUnread (work_of job.now) (H.contents shelf.old) (input.new ≡ input.old) }
-    ensures unused { uses_shelf job.now ≡ false → shelf.new ≡ shelf.old }
+    ensures soon { policy ≡ nothing → IfHears job.now (RefusesInTime profile result (S.left input.old) (S.left input.new)) }
+    ensures unread { IfUnread (work_under profile job.now) (H.contents shelf.old) (input.new ≡ input.old) }
+    ensures unused { has_shelf (work_under profile job.now) ≡ false → shelf.new ≡ shelf.old }
 {
     match job {
         Job::Check => {
             let checking = ByOutput(Checking);
-            serve_messages(&checking, alloc, policy, input, output, notes, shelf)
+            serve_messages(
+                &checking, alloc, profile, policy, input, output, notes, shelf,
+            )
         }
         Job::List => {
             let listing = ByOutput(Printing(Listing));
-            serve_messages(&listing, alloc, policy, input, output, notes, shelf)
+            serve_messages(
+                &listing, alloc, profile, policy, input, output, notes, shelf,
+            )
         }
         Job::Keys => {
             let keying = ByOutput(Printing(Keying));
-            serve_messages(&keying, alloc, policy, input, output, notes, shelf)
+            serve_messages(&keying, alloc, profile, policy, input, output, notes, shelf)
         }
         Job::Stats => {
-            let summing = ByOutput(Printing(Summing));
-            serve_messages(&summing, alloc, policy, input, output, notes, shelf)
+            let summing = ByOutput(PrintingValues(Summing));
+            serve_messages(
+                &summing, alloc, profile, policy, input, output, notes, shelf,
+            )
         }
         Job::Dump { decimals: None } => {
-            let dumping = ByOutput(Printing(Dumping));
-            serve_messages(&dumping, alloc, policy, input, output, notes, shelf)
+            let dumping = ByOutput(PrintingValues(Dumping));
+            serve_messages(
+                &dumping, alloc, profile, policy, input, output, notes, shelf,
+            )
         }
         Job::Dump {
             decimals: Some(places),
         } => {
             let valuing = ByOutput(Valuing { places: *places });
-            serve_messages(&valuing, alloc, policy, input, output, notes, shelf)
+            serve_messages(
+                &valuing, alloc, profile, policy, input, output, notes, shelf,
+            )
         }
         Job::Values(format) => {
-            let arraying = ByOutput(Printing(Arraying { format: *format }));
-            serve_messages(&arraying, alloc, policy, input, output, notes, shelf)
+            let arraying = ByOutput(PrintingValues(Arraying { format: *format }));
+            serve_messages(
+                &arraying, alloc, profile, policy, input, output, notes, shelf,
+            )
         }
         Job::Filter(conditions) => {
             let conditions = conditions.as_slice();
             let filtering = ByOutput(Changing(Filtering { conditions }));
-            serve_messages(&filtering, alloc, policy, input, output, notes, shelf)
+            serve_messages(
+                &filtering, alloc, profile, policy, input, output, notes, shelf,
+            )
         }
         Job::Split(name) => {
             let splitting = Splitting { name };
-            serve_messages(&splitting, alloc, policy, input, output, notes, shelf)
+            serve_messages(
+                &splitting, alloc, profile, policy, input, output, notes, shelf,
+            )
         }
         Job::Set(changes) => {
             let changes = changes.as_slice();
             let setting = ByOutput(Changing(Setting { changes }));
-            serve_messages(&setting, alloc, policy, input, output, notes, shelf)
+            serve_messages(
+                &setting, alloc, profile, policy, input, output, notes, shelf,
+            )
         }
         Job::Repack(target) => {
-            let repacking = ByOutput(Changing(Repacking { target: *target }));
-            serve_messages(&repacking, alloc, policy, input, output, notes, shelf)
+            let repacking = ByOutput(Changing(OfValues(Repacking { target: *target })));
+            serve_messages(
+                &repacking, alloc, profile, policy, input, output, notes, shelf,
+            )
         }
         Job::RepackLeast => {
-            let shrinking = ByOutput(Changing(Shrinking));
-            serve_messages(&shrinking, alloc, policy, input, output, notes, shelf)
+            let shrinking = ByOutput(Changing(OfValues(Shrinking)));
+            serve_messages(
+                &shrinking, alloc, profile, policy, input, output, notes, shelf,
+            )
         }
         Job::Rescan => {
             let edit = GridEdit::Rescan;
-            let rescanning = ByOutput(Changing(Rescanning { edit }));
-            serve_messages(&rescanning, alloc, policy, input, output, notes, shelf)
+            let rescanning = ByOutput(Changing(OfValues(Rescanning { edit })));
+            serve_messages(
+                &rescanning,
+                alloc,
+                profile,
+                policy,
+                input,
+                output,
+                notes,
+                shelf,
+            )
         }
         Job::Crop(area) => {
             let edit = GridEdit::Crop(*area);
-            let cropping = ByOutput(Changing(Rescanning { edit }));
-            serve_messages(&cropping, alloc, policy, input, output, notes, shelf)
+            let cropping = ByOutput(Changing(OfValues(Rescanning { edit })));
+            serve_messages(
+                &cropping, alloc, profile, policy, input, output, notes, shelf,
+            )
         }
         Job::Migrate {
             params,
             surfaces,
             local,
         } => serve_migrated(
-            alloc, params, surfaces, *local, policy, input, output, notes, shelf,
+            alloc, params, surfaces, *local, profile, policy, input, output, notes, shelf,
         ),
         Job::Demote {
             params,
@@ -151,7 +198,8 @@ pub fn serve_under<S: Source, T: Sink, N: Sink, H: Shelf>(
         } => {
             let (keep_local, any_earth, matching) = (*keep_local, *any_earth, *matching);
             serve_demoted(
-                alloc, params, matching, keep_local, any_earth, policy, input, output, notes, shelf,
+                alloc, params, matching, keep_local, any_earth, profile, policy, input, output,
+                notes, shelf,
             )
         }
         Job::Make {

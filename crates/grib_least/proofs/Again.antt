@@ -5,16 +5,16 @@ use Rattle.std.proofs.lemmas.Bool.{cases_eq, ltb-true}
 use Rattle.std.proofs.lemmas.List.{take-append-le, take-take}
 use Rattle.grib_bits.specs.Octets.{octets}
 use Rattle.grib_bits.specs.Encoding.{octets_of}
-use Rattle.grib_base.specs.declared.profile.Profile.TheVariants.{Stated}
+use Rattle.grib_base.specs.declared.profile.Profile.{Profile}
 use Rattle.grib2_sections.specs.Head.{end_mark}
 use Rattle.grib2_sections.specs.Frame.{Placed, section_number}
 use Rattle.grib2_grids.specs.Grid.{grid_points}
 use Rattle.grib_bitmap.specs.Mask.{bitmap_indicator}
 use Rattle.grib_packing.specs.declared.written.Packed.{Packed}
 use Rattle.grib2_message.specs.View.{is_numbered, octets_in_force}
-use Rattle.grib2_message.specs.Grammar.{Grammar2}
+use Rattle.grib2_message.specs.Grammar.{GrammarUnder}
 use Rattle.grib2_message.specs.Fields.{sections_of, field_count, field_sections, sections_up_to_field, part_octets, field_bitmap, column_of}
-use Rattle.grib2_message.specs.Assembled.{assembled, replaced, in_place_with, as_it_is, IsGrid, PartsPass, MayBeAssembled}
+use Rattle.grib2_message.specs.Assembled.{assembled, replaced, in_place_with, as_it_is, IsGridUnder, PartsPass, MayBeAssembledUnder}
 use Rattle.grib2_message.proofs.Latest.{own_alone}
 use Rattle.grib2_message.proofs.Parted.{message_parted, message_least, joined_grammar}
 use Rattle.grib2_message.proofs.Placing.{placed_from}
@@ -116,40 +116,40 @@ same_from f g first zero each = refl
 same_from f g first (suc n) each =
     ap₂ (λ (x : Packed) (xs : List Packed). x ∷ xs) (each first (omega arith) (omega arith)) (same_from f g (first + 1) n (λ i low high. each i (omega arith) (omega arith)))
 
-module _ (m : List ℕ) (parts : List Packed) (h : MayBeAssembled m parts) where
+module _ (profile : Profile) (m : List ℕ) (parts : List Packed) (h : MayBeAssembledUnder profile m parts) where
   abbrev news : List (List ℕ)
   news = replaced (sections_of m) parts
 
-  follows : Rebuilt Stated as_it_is parts [] 17 17 (message_parted Stated m h.accepted).sections news
+  follows : Rebuilt profile as_it_is parts [] 17 17 (message_parted profile m h.accepted).sections news
   follows =
-      let p = message_parted Stated m h.accepted in
-      let each = subst (EachGrid (λ s. IsGrid s → IsGrid s)) p.found (each_grid_of Stated (λ s. IsGrid s → IsGrid s) m h.accepted (λ i low high is. is)) in
-      subst (λ (xs : List Placed). Rebuilt Stated as_it_is parts [] 17 17 p.sections (replaced xs parts)) (sym p.found)
-      (rebuilt Stated as_it_is p.sections parts [] [] 17 17 p.follow tt (outside parts [] (λ low high. absurd (omega arith))) (sound_none Stated) each
+      let p = message_parted profile m h.accepted in
+      let each = subst (EachGrid (λ s. IsGridUnder profile s → IsGridUnder profile s)) p.found (each_grid_of profile (λ s. IsGridUnder profile s → IsGridUnder profile s) m h.accepted (λ i low high is. is)) in
+      subst (λ (xs : List Placed). Rebuilt profile as_it_is parts [] 17 17 p.sections (replaced xs parts)) (sym p.found)
+      (rebuilt profile as_it_is p.sections parts [] [] 17 17 p.follow tt (outside parts [] (λ low high. absurd (omega arith))) (sound_none profile) each
       (λ i part e.
       subst (λ (xs : List Placed). PartsPass (grid_points (octets_in_force 3 (sections_up_to_field (suc i) [] xs))) part) p.found
       (subst (λ (n : ℕ). PartsPass (grid_points (part_octets m n 3)) part) (add-one i) (h.pass i part e)))
       (h.one_each ∙ ap (count_by (is_numbered 7)) p.found))
 
-  grammar : Grammar2 (assembled m parts) news
+  grammar : GrammarUnder profile (assembled m parts) news
   grammar =
       let body = concat news in
       let total = 16 + length body + 4 in
-      let few : total ≤ 268435456 = omega (arith, assembled_long as_it_is m parts (omega (arith, message_least Stated m h.accepted)), h.most) in
-      subst (λ (xs : List ℕ). Grammar2 xs news) (append_assoc (take 8 m) (octets_of 8 total) (body ++ end_mark))
-      (joined_grammar Stated (take 8 m ++ octets_of 8 total) news (head_of Stated m total h.accepted few) few follows.follow)
+      let few : total ≤ 268435456 = omega (arith, assembled_long as_it_is m parts (omega (arith, message_least profile m h.accepted)), h.most) in
+      subst (λ (xs : List ℕ). GrammarUnder profile xs news) (append_assoc (take 8 m) (octets_of 8 total) (body ++ end_mark))
+      (joined_grammar profile (take 8 m ++ octets_of 8 total) news (head_of profile m total h.accepted few) few follows.follow)
 
   head_again : take 8 (assembled m parts) ≡ take 8 m
   head_again =
       let body = concat news in
-      let eight : length (take 8 m) ≡ 8 = length-take-le 8 m (omega (arith, message_least Stated m h.accepted)) in
+      let eight : length (take 8 m) ≡ 8 = length-take-le 8 m (omega (arith, message_least profile m h.accepted)) in
       take-append-le 8 (take 8 m) (octets_of 8 (16 + length body + 4) ++ (body ++ end_mark)) (omega (arith, eight)) ∙ take-take 8 8 m (omega arith)
 
   -- with the parts that it has it stays as it is
   assembled_again : AreNumbered parts → assembled (assembled m parts) parts ≡ assembled m parts
   assembled_again are =
       let body : concat (replaced (sections_of (assembled m parts)) parts) ≡ concat news =
-      ap (λ (xs : List Placed). concat (replaced xs parts)) (sections_alone Stated (assembled m parts) news grammar)
+      ap (λ (xs : List Placed). concat (replaced xs parts)) (sections_alone profile (assembled m parts) news grammar)
       ∙ ap concat (replaced_again (sections_of m) parts 17 are) in
       (λ j. head_again j ++ (octets_of 8 (16 + length (body j) + 4) ++ (body j ++ end_mark)))
 
@@ -179,15 +179,15 @@ form_again m other i column stands has =
 -- ---- the whole
 
 -- what is known of the message that is put together
-pub record Put (m other : List ℕ) : Type 0 where
-  pub may : MayBeAssembled m (least_forms m)
+pub record Put (profile : Profile) (m other : List ℕ) : Type 0 where
+  pub may : MayBeAssembledUnder profile m (least_forms m)
   pub stands : (i : ℕ) → 1 ≤ i → i ≤ field_count m → Stands m i (least_form m i)
   pub fields : field_count other ≡ field_count m
   pub columns : (i : ℕ) → 1 ≤ i → i ≤ field_count m → column_of other i ≡ column_of m i
   pub parts : (i : ℕ) → 1 ≤ i → i ≤ field_count m
       → let p = least_form m i in (part_octets other i 5 ≡ p.section5) × (part_octets other i 6 ≡ p.section6) × (part_octets other i 7 ≡ p.section7)
 
-module _ (m : List ℕ) (put : Put m (assembled m (least_forms m))) where
+module _ (profile : Profile) (m : List ℕ) (put : Put profile m (assembled m (least_forms m))) where
   forms_again : least_forms (assembled m (least_forms m)) ≡ least_forms m
   forms_again =
       let other = assembled m (least_forms m) in
@@ -205,14 +205,14 @@ module _ (m : List ℕ) (put : Put m (assembled m (least_forms m))) where
   whole_again : least (assembled m (least_forms m)) ≡ assembled m (least_forms m)
   whole_again =
       let other = assembled m (least_forms m) in
-      let again : assembled other (least_forms other) ≡ other = ap (assembled other) forms_again ∙ assembled_again m (least_forms m) put.may numbered in
+      let again : assembled other (least_forms other) ≡ other = ap (assembled other) forms_again ∙ assembled_again profile m (least_forms m) put.may numbered in
       ap (shorter other) again
       ∙ ap (λ (b : Bool). cond b other other) (le-ltb (length other) (length other) (omega arith))
 
 -- the shorter of a message and another, once more
-pub again_least : (m : List ℕ) → (length (assembled m (least_forms m)) < length m → Put m (assembled m (least_forms m))) → least (least m) ≡ least m
-again_least m put = go (assembled m (least_forms m)) refl (nat_lt (length (assembled m (least_forms m))) (length m)) refl where
+pub again_least : (profile : Profile) (m : List ℕ) → (length (assembled m (least_forms m)) < length m → Put profile m (assembled m (least_forms m))) → least (least m) ≡ least m
+again_least profile m put = go (assembled m (least_forms m)) refl (nat_lt (length (assembled m (least_forms m))) (length m)) refl where
   go : (other : List ℕ) → other ≡ assembled m (least_forms m) → (b : Bool) → nat_lt (length other) (length m) ≡ b → least (cond b other m) ≡ cond b other m
   go other is true e =
-      subst (λ (x : List ℕ). least x ≡ x) (sym is) (whole_again m (put (omega (arith, ap length is, ltb-true (length other) (length m) e))))
+      subst (λ (x : List ℕ). least x ≡ x) (sym is) (whole_again profile m (put (omega (arith, ap length is, ltb-true (length other) (length m) e))))
   go other is false e = sym (ap (shorter m) is) ∙ ap (λ (b : Bool). cond b other m) e

@@ -6,7 +6,7 @@ use Rattle.std.proofs.lemmas.List.FromFn.{length-map-range_with_len, get_or-map-
 use Rattle.std.proofs.lemmas.Option.{slice_get_within, get_or_from_slice_get, slice_get-get_or}
 use Rattle.grib_bits.specs.Octets.{octets}
 use Rattle.grib_base.specs.Rows.{choose}
-use Rattle.grib_base.specs.declared.profile.Profile.TheVariants.{Stated}
+use Rattle.grib_base.specs.declared.profile.Profile.{Profile}
 use Rattle.grib2_grids.specs.Grid.{grid_points}
 use Rattle.grib2_sections.specs.Frame.{Placed}
 use Rattle.grib_bitmap.specs.Mask.{bitmap_indicator, bitmap_rows, mask_of}
@@ -20,8 +20,8 @@ use Rattle.grib_packing.specs.declared.written.Packed.{Packed}
 use Rattle.grib_packed.specs.Written.{packed}
 use Rattle.grib2_message.specs.View.{is_numbered, octets_in_force, earlier_bitmap, first_octets, own_bitmap}
 use Rattle.grib2_message.specs.Fields.{field_count, field_sections, part_octets, field_bitmap, field_mask, column_of}
-use Rattle.grib2_message.specs.Message.{IsMessage, FieldPasses}
-use Rattle.grib2_message.specs.Assembled.{assembled, PartsPass, MayBeAssembled}
+use Rattle.grib2_message.specs.Message.{IsMessageUnder, IsReadable, FieldPassesUnder}
+use Rattle.grib2_message.specs.Assembled.{assembled, PartsPass, MayBeAssembledUnder}
 use Rattle.grib2_message.proofs.Bitmaps.{rows_alone}
 use Rattle.grib2_message.proofs.Latest.{own_alone, own_repeated}
 use Rattle.grib2_message.proofs.Parted.{message_most}
@@ -32,7 +32,7 @@ use Rattle.grib_select.proofs.Cut.{stands_alone}
 use Rattle.grib_repack.specs.Repacked.{kind_of}
 use Rattle.grib_repack.proofs.Octets.{part_of_octets, octets_few}
 use Rattle.grib_repack.proofs.Columns.{column_long, may_be_packed, has_words, kind_small}
-use Rattle.grib_repack.proofs.Kept.{IsWritten, Unpacks}
+use Rattle.grib_repack.proofs.Kept.{IsWritten, Unpacks, reads}
 use Rattle.grib_repack.proofs.Sections.{are_written}
 use Rattle.grib_least.specs.Least.{own_form, form_of, packed_forms, least_form, least_forms, shorter, least}
 use Rattle.grib_least.proofs.Smallest.{smallest_of, each_packed, counts}
@@ -87,7 +87,7 @@ passing_indicator n small other passes = elim (cases_eq n 0) [
   ]
 ]
 
-module _ (message : List ℕ) (i : ℕ) (accepted : IsMessage message) (each : All (λ octet. octet < 256) message) (low : 1 ≤ i) (high : i ≤ field_count message) where
+module _ (profile : Profile) (message : List ℕ) (i : ℕ) (accepted : IsMessageUnder profile message) (each : All (λ octet. octet < 256) message) (low : 1 ≤ i) (high : i ≤ field_count message) where
   own_indicator : (bitmap_indicator (field_bitmap message i) ≡ 0) ⊎ (bitmap_indicator (field_bitmap message i) ≡ 255)
   own_indicator =
       let before = field_sections message i in
@@ -96,7 +96,7 @@ module _ (message : List ℕ) (i : ℕ) (accepted : IsMessage message) (each : A
         | inr other ↦
             let s = octets_in_force 6 before in
             let is : bitmap_indicator (own_bitmap before) ≡ bitmap_indicator s = ap bitmap_indicator (own_alone before other) in
-            let p = parts message i accepted low high in
+            let p = parts profile message i accepted low high in
             let rows = passes_from_none (bitmap_rows (own_bitmap before) (grid_points (part_octets message i 3)) (value_count (part_octets message i 5)) None) p.bitmap in
             let few : octets s 6 6 < 2 ^ 8 = octets_few s 6 6 8 (part_of_octets message i 6 each) (omega arith) in
             passing_indicator (bitmap_indicator (own_bitmap before)) (omega (arith, few, is)) p.alone rows.1.0
@@ -115,16 +115,17 @@ kind_stands ToSimple column kind s5 s6 s7 has = has.numbers.kind_stands
 kind_stands ToComplex column kind s5 s6 s7 has = has.numbers.kind_stands
 kind_stands (ToSpatial order) column kind s5 s6 s7 has = has.numbers.kind_stands
 
-module _ (written : IsWritten) (unpack : Unpacks)
-    (passes : (message : List ℕ) (i : ℕ) → IsMessage message → 1 ≤ i → i ≤ field_count message → FieldPasses message i)
-    (masks : (message : List ℕ) (i : ℕ) → IsMessage message → All (λ octet. octet < 256) message → 1 ≤ i → i ≤ field_count message
+module _ (written : IsWritten) (unpack : Unpacks) (profile : Profile)
+    (passes : (message : List ℕ) (i : ℕ) → IsMessageUnder profile message → 1 ≤ i → i ≤ field_count message → FieldPassesUnder profile message i)
+    (masks : (message : List ℕ) (i : ℕ) → IsMessageUnder profile message → All (λ octet. octet < 256) message → 1 ≤ i → i ≤ field_count message
     → length (field_mask message i) ≡ grid_points (part_octets message i 3))
-    (message : List ℕ) (accepted : IsMessage message) (each : All (λ octet. octet < 256) message) where
+    (message : List ℕ) (accepted : IsMessageUnder profile message) (readable : IsReadable message) (each : All (λ octet. octet < 256) message) where
   own_stands : (i : ℕ) → 1 ≤ i → i ≤ field_count message → Stands message i (own_form message i)
   own_stands i low high =
-      let p = parts message i accepted low high in
-      let up = field_up_to message i accepted low high in
-      let alone = stands_alone (field_sections message i) up.accepted up.ends in
+      let p = parts profile message i accepted low high in
+      let here = reads profile message i (passes message i accepted low high) (readable i low high) in
+      let up = field_up_to profile message i accepted low high in
+      let alone = stands_alone profile (field_sections message i) up.accepted up.ends in
       let s6 = field_bitmap message i in
       let points = grid_points (part_octets message i 3) in
       record {
@@ -132,8 +133,8 @@ module _ (written : IsWritten) (unpack : Unpacks)
           itself_5 = p.itself_5;
           itself_6 = p.itself_6;
           itself_7 = p.itself_7;
-          packing = p.packing;
-          alone = own_indicator message i accepted each low high;
+          packing = here.packing;
+          alone = own_indicator profile message i accepted each low high;
           bitmap = λ earlier. rows_alone s6 points (value_count (part_octets message i 5)) p.alone earlier None ∙ p.bitmap;
           values = p.values;
         };
@@ -147,7 +148,7 @@ module _ (written : IsWritten) (unpack : Unpacks)
       let column = column_of message i in
       let kind = kind_of message i in
       let p = packed target column kind in
-      let here = passes message i accepted low high in
+      let here = reads profile message i (passes message i accepted low high) (readable i low high) in
       let long = masks message i accepted each low high in
       let packable = may_be_packed message i here long in
       let has : HasPacked target column kind p.section5 p.section6 p.section7 =
@@ -180,7 +181,7 @@ module _ (written : IsWritten) (unpack : Unpacks)
       let c = counts (first_misfit target column.points) (packed target column kind) p e in
       subst (Stands message i) c.1 (packed_stands i low high target is c.0)))
 
-  pub may_be_assembled : length (assembled message (least_forms message)) ≤ 268435456 → MayBeAssembled message (least_forms message)
+  pub may_be_assembled : length (assembled message (least_forms message)) ≤ 268435456 → MayBeAssembledUnder profile message (least_forms message)
   may_be_assembled few = record {
     accepted = accepted;
     one_each = length-map-range_with_len (least_form message) 1 (field_count message);
@@ -200,10 +201,10 @@ shorter_is P message other here there = go (nat_lt (length other) (length messag
   go true e = there (ltb-true (length other) (length message) e)
   go false e = here
 
-pub least_is : (P : List ℕ → Type 0) (message : List ℕ) → IsMessage message → P message
+pub least_is : (profile : Profile) (P : List ℕ → Type 0) (message : List ℕ) → IsMessageUnder profile message → P message
     → (length (assembled message (least_forms message)) ≤ 268435456 → P (assembled message (least_forms message))) → P (least message)
-least_is P message accepted here there =
-    shorter_is P message (assembled message (least_forms message)) here (λ low. there (omega (arith, low, message_most Stated message accepted)))
+least_is profile P message accepted here there =
+    shorter_is P message (assembled message (least_forms message)) here (λ low. there (omega (arith, low, message_most profile message accepted)))
 
 pub no_longer : (message other : List ℕ) → length (shorter message other) ≤ length message
 no_longer message other = shorter_is (λ (x : List ℕ). length x ≤ length message) message other (omega arith) (λ low. omega (arith, low))

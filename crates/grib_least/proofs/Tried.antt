@@ -1,6 +1,7 @@
 -- Lemmas on the form that is chosen.
 use Rattle.std.proofs.Common.{◌≡◌, ℕ, ◌+◌, ◌≤◌, ◌<◌, Bool, cond, nat_lt, min, Option, Some, None, List, length, refl, sym, ap, ◌∙◌, arith, subst, le-ltb}
 use Rattle.std.specs.List.{filter_map}
+use Rattle.grib_base.specs.declared.profile.Profile.{Profile}
 use Rattle.grib_packing.specs.declared.column.Column.{Column}
 use Rattle.grib_packing.specs.Misfits.{Target, ToSimple, ToComplex, ToSpatial, Misfit, first_misfit}
 use Rattle.grib_packing.specs.Packed.{Packed as HasPacked}
@@ -13,7 +14,7 @@ use Rattle.grib2_message.specs.Assembled.{IsShort, IsAssembleFault}
 use Rattle.grib2_message.specs.declared.fault.AssembleFault.{AssembleFault}
 use Rattle.grib2_message.specs.declared.fault.AssembleFault.TheVariants.{TooLong}
 use Rattle.grib2_message.specs.Fields.{field_count, column_of}
-use Rattle.grib2_message.specs.Message.{IsMessage}
+use Rattle.grib2_message.specs.Message.{IsMessageUnder}
 use Rattle.grib_select.proofs.Alone.{part_short}
 use Rattle.grib_repack.specs.Repacked.{kind_of}
 use Rattle.grib_repack.proofs.Kept.{IsWritten}
@@ -27,11 +28,11 @@ same_parts : (p q : Packed) → (p.section5 ≡ q.section5) × (p.section6 ≡ q
 same_parts p q e = λ i. record { section5 = e.0 i; section6 = e.1 i; section7 = e.2 i }
 
 -- the sections of a field are short
-pub own_short : (message : List ℕ) (i : ℕ) → IsMessage message → 1 ≤ i → i ≤ field_count message → IsShort (own_form message i)
-own_short message i accepted low high = record {
-  short_5 = omega (arith, part_short message i 5 accepted low high);
-  short_6 = omega (arith, part_short message i 6 accepted low high);
-  short_7 = omega (arith, part_short message i 7 accepted low high);
+pub own_short : (profile : Profile) (message : List ℕ) (i : ℕ) → IsMessageUnder profile message → 1 ≤ i → i ≤ field_count message → IsShort (own_form message i)
+own_short profile message i accepted low high = record {
+  short_5 = omega (arith, part_short profile message i 5 accepted low high);
+  short_6 = omega (arith, part_short profile message i 6 accepted low high);
+  short_7 = omega (arith, part_short profile message i 7 accepted low high);
 }
 
 -- what was packed is short

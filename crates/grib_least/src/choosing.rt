@@ -4,7 +4,7 @@ ghost use Rattle.std.specs.Prelude.{◌≡◌, ◌+◌, ◌≤◌, All, IfOk};
 ghost use Rattle.grib_packing.specs.Written.{IsTarget, MayBePacked};
 ghost use Rattle.grib2_message.specs.Assembled.{IsShort};
 ghost use Rattle.grib2_message.specs.Fields.{field_count, column_of};
-ghost use Rattle.grib2_message.specs.Message.{IsMessage};
+ghost use Rattle.grib2_message.specs.Message.{IsAnyMessage};
 ghost use Rattle.grib_repack.specs.Faults.{target_of};
 ghost use Rattle.grib_repack.specs.Repacked.{kind_of};
 ghost use Rattle.grib_least.specs.Earlier as earlier;
@@ -16,7 +16,7 @@ use grib_base::List;
 use grib_packed::laws::{a_packing_is_written, one_packing_is_written};
 use grib_packing::{Column, PackFault, Packed, are_octets};
 use grib_repack::{RepackTarget, pack_field};
-use grib2_message::{AssembleFault, Message};
+use grib2_message::{AssembleFault, ReadableMessage};
 use std::alloc::{AllocError, Global};
 
 /// The message with each field in the one of these forms that has the fewest octets in Sections 5, 6 and 7,
@@ -29,7 +29,7 @@ use std::alloc::{AllocError, Global};
 /// # Errors
 ///
 /// There is no memory.
-pub fn repack_least(alloc: Global, message: &Message<'_>) -> Result<Vec<u8>, AllocError>
+pub fn repack_least(alloc: Global, message: &ReadableMessage<'_>) -> Result<Vec<u8>, AllocError>
     ensures { IfOk result (λ octets. octets.items ≡ least message.now) }
 {
     let octets = message.octets();
@@ -53,8 +53,8 @@ fn shorter(alloc: Global, message: &[u8], other: Vec<u8>) -> Result<Vec<u8>, All
 }
 
 /// The form in which each field of the message is written.
-fn least_forms(alloc: Global, message: &Message<'_>) -> Result<Vec<Packed>, AllocError>
-    requires { IsMessage message.now }
+fn least_forms(alloc: Global, message: &ReadableMessage<'_>) -> Result<Vec<Packed>, AllocError>
+    requires { IsAnyMessage message.now }
     ensures forms { IfOk result (λ forms. forms.items ≡ definitions.least_forms message.now) }
     ensures short { IfOk result (λ forms. All IsShort forms.items) }
 {
@@ -68,8 +68,12 @@ fn least_forms(alloc: Global, message: &Message<'_>) -> Result<Vec<Packed>, Allo
 }
 
 /// The form in which one field is written, counted from 1.
-fn least_form(alloc: Global, message: &Message<'_>, field: u32) -> Result<Packed, AllocError>
-    requires message { IsMessage message.now }
+fn least_form(
+    alloc: Global,
+    message: &ReadableMessage<'_>,
+    field: u32,
+) -> Result<Packed, AllocError>
+    requires message { IsAnyMessage message.now }
     requires first { 1 ≤ field }
     requires last { field ≤ field_count message.now }
     ensures form { IfOk result (λ form. form ≡ definitions.least_form message.now field) }
@@ -117,7 +121,7 @@ fn least_form(alloc: Global, message: &Message<'_>, field: u32) -> Result<Packed
 }
 
 /// The Sections 5, 6 and 7 that a field has, counted from 1.
-fn own_form(alloc: Global, message: &Message<'_>, field: u32) -> Result<Packed, AllocError>
+fn own_form(alloc: Global, message: &ReadableMessage<'_>, field: u32) -> Result<Packed, AllocError>
     requires first { 1 ≤ field }
     requires last { field ≤ field_count message.now }
     ensures { IfOk result (λ form. form ≡ definitions.own_form message.now field) }
@@ -141,7 +145,7 @@ fn own_form(alloc: Global, message: &Message<'_>, field: u32) -> Result<Packed, 
 /// There is no memory.
 fn or_packed(
     alloc: Global,
-    message: &Message<'_>,
+    message: &ReadableMessage<'_>,
     field: u32,
     column: &Column,
     target: RepackTarget,

@@ -1,10 +1,11 @@
 //! Laws over the definitions.
 
 ghost use Rattle.std.specs.Prelude.{◌≡◌, ℕ, ◌≤◌, ◌<◌, List, None, length, All};
+ghost use Rattle.grib_base.specs.declared.profile.Profile.{Profile};
 ghost use Rattle.grib_packing.specs.Misfits.{Target, first_misfit};
 ghost use Rattle.grib_packing.specs.Written.{IsTarget};
 ghost use Rattle.grib2_message.specs.Fields.{field_count, part_octets, column_of, meaning_of};
-ghost use Rattle.grib2_message.specs.Message.{IsMessage};
+ghost use Rattle.grib2_message.specs.Message.{IsMessageUnder, IsReadable};
 ghost use Rattle.grib_repack.specs.Repacked.{packed_field};
 ghost use Rattle.grib_least.specs.Least.{least, least_form, own_form, size_of};
 
@@ -15,20 +16,26 @@ use grib_packed::laws::a_packing_is_written;
 use grib_simple::laws::what_is_packed_simply_reads_back;
 use grib2_message::laws::{field_holds, what_is_assembled_is_accepted};
 
-/// In the fewest octets an accepted message keeps each value: it is accepted and has as many fields. Each field
-/// has the same column, so that each of its points means the same, and its Sections 1 to 4 as they were.
+/// In the fewest octets a message that a profile accepts, and whose values can be read, keeps each value: it is accepted by
+/// that profile and has as many fields. Each field has the same column, so that each of its points means the same, and its
+/// Sections 1 to 4 as they were.
 pub fn what_is_least_is_kept()
-    ensures accepted { (message : List ℕ) → IsMessage message → All (λ octet. octet < 256) message
-        → IsMessage (least message) }
-    ensures fields { (message : List ℕ) → IsMessage message → All (λ octet. octet < 256) message
+    ensures accepted { (profile : Profile) (message : List ℕ) → IsMessageUnder profile message → IsReadable message
+        → All (λ octet. octet < 256) message
+        → IsMessageUnder profile (least message) }
+    ensures fields { (profile : Profile) (message : List ℕ) → IsMessageUnder profile message → IsReadable message
+        → All (λ octet. octet < 256) message
         → field_count (least message) ≡ field_count message }
-    ensures columns { (message : List ℕ) → IsMessage message → All (λ octet. octet < 256) message
+    ensures columns { (profile : Profile) (message : List ℕ) → IsMessageUnder profile message → IsReadable message
+        → All (λ octet. octet < 256) message
         → (i : ℕ) → 1 ≤ i → i ≤ field_count message
         → column_of (least message) i ≡ column_of message i }
-    ensures meanings { (message : List ℕ) → IsMessage message → All (λ octet. octet < 256) message
+    ensures meanings { (profile : Profile) (message : List ℕ) → IsMessageUnder profile message → IsReadable message
+        → All (λ octet. octet < 256) message
         → (i : ℕ) → 1 ≤ i → i ≤ field_count message
         → meaning_of (least message) i ≡ meaning_of message i }
-    ensures kept { (message : List ℕ) → IsMessage message → All (λ octet. octet < 256) message
+    ensures kept { (profile : Profile) (message : List ℕ) → IsMessageUnder profile message → IsReadable message
+        → All (λ octet. octet < 256) message
         → (i k : ℕ) → k ≤ 4 → part_octets (least message) i k ≡ part_octets message i k }
 {
     a_packing_is_written();
@@ -55,7 +62,8 @@ pub fn no_form_is_smaller()
 
 /// A message in the fewest octets stays as it is.
 pub fn least_of_least()
-    ensures { (message : List ℕ) → IsMessage message → All (λ octet. octet < 256) message
+    ensures { (profile : Profile) (message : List ℕ) → IsMessageUnder profile message → IsReadable message
+        → All (λ octet. octet < 256) message
         → least (least message) ≡ least message }
 {
     a_packing_is_written();

@@ -2,9 +2,13 @@
 use Rattle.std.proofs.Common.{◌≡◌, ℕ, ◌<◌, ◌≤◌, None, List, length, inl, ap, sym, ◌∙◌, arith}
 use Rattle.grib_bits.specs.Octets.{octets, octet_list, num_on}
 use Rattle.grib_base.specs.Rows.{first_fault}
+use Rattle.grib_base.specs.declared.profile.Profile.{Profile}
+use Rattle.grib_base.specs.declared.profile.Profile.TheVariants.{Stated}
 use Rattle.grib2_grids.specs.Grid.{grid_rows, grid_points}
+use Rattle.grib2_grids.specs.Opaque.{grid_rows_under}
+use Rattle.grib2_grids.proofs.Under.{grid_accepted}
 use Rattle.grib_packing.specs.declared.column.Column.{Column}
-use Rattle.grib2_message.specs.Assembled.{IsGrid}
+use Rattle.grib2_message.specs.Assembled.{IsGridUnder}
 use Rattle.grib_rescan.specs.declared.points.Area.{Area}
 use Rattle.grib_rescan.specs.Scanning.{scanning_of}
 use Rattle.grib_rescan.specs.Points.{IsBox, width, height}
@@ -25,8 +29,13 @@ box_of area s stands can = record { columns = stands.0; rows = stands.1; last_co
 
 -- a grid that is edited is one of latitude and longitude
 pub lat_lon_of : (edit : GridEdit) (s : List ℕ) → first_fault (grid_rows s) ≡ None → cause_of edit s ≡ None → IsLatLon s
-lat_lon_of Rescan s none uncaused = can_be_rescanned s none uncaused
-lat_lon_of (Crop area) s none uncaused = (can_be_cut area s none uncaused).lat_lon
+lat_lon_of Rescan s none uncaused = can_be_rescanned Stated s none uncaused
+lat_lon_of (Crop area) s none uncaused = (can_be_cut Stated area s none uncaused).lat_lon
+
+-- its Section 3 passes the rows of the stated grids, whatever profile it passes
+pub stated_rows : (edit : GridEdit) (profile : Profile) (s : List ℕ) → first_fault (grid_rows_under profile s) ≡ None → cause_of edit s ≡ None → first_fault (grid_rows s) ≡ None
+stated_rows Rescan profile s none uncaused = accepted s (can_be_rescanned profile s none uncaused)
+stated_rows (Crop area) profile s none uncaused = accepted s (can_be_cut profile area s none uncaused).lat_lon
 
 number : (s t : List ℕ) (first last : ℕ) → octet_list s first last ≡ octet_list t first last → octets s first last ≡ octets t first last
 number s t first last same = ap (num_on 0) same
@@ -46,37 +55,38 @@ module _ (s : List ℕ) (is : IsLatLon s) where
 
 -- no row refuses it
 pub new_rows : (edit : GridEdit) (s : List ℕ) → Stands edit → first_fault (grid_rows s) ≡ None → cause_of edit s ≡ None → first_fault (grid_rows (section_of edit s)) ≡ None
-new_rows Rescan s stands none uncaused = accepted (rescanned_section s) (rescanned s (can_be_rescanned s none uncaused))
+new_rows Rescan s stands none uncaused = accepted (rescanned_section s) (rescanned s (can_be_rescanned Stated s none uncaused))
 new_rows (Crop area) s stands none uncaused =
-    let can = can_be_cut area s none uncaused in
+    let can = can_be_cut Stated area s none uncaused in
     accepted (cropped_section area s) (cropped area s can.lat_lon (box_of area s stands can))
 
 new_head : (edit : GridEdit) (s : List ℕ) → first_fault (grid_rows s) ≡ None → cause_of edit s ≡ None → (first last : ℕ) → 1 ≤ first → last < 7
     → octets (section_of edit s) first last ≡ octets s first last
-new_head Rescan s none uncaused first last some before = rescanned_head s (can_be_rescanned s none uncaused) first last some (omega (arith, before))
-new_head (Crop area) s none uncaused first last some before = cropped_head s (can_be_cut area s none uncaused).lat_lon area first last some before
+new_head Rescan s none uncaused first last some before = rescanned_head s (can_be_rescanned Stated s none uncaused) first last some (omega (arith, before))
+new_head (Crop area) s none uncaused first last some before = cropped_head s (can_be_cut Stated area s none uncaused).lat_lon area first last some before
 
-pub new_grid : (edit : GridEdit) (s : List ℕ) → Stands edit → cause_of edit s ≡ None → IsGrid s → IsGrid (section_of edit s)
-new_grid edit s stands uncaused grid =
-    let size = as_long edit s (stands, grid.rows, uncaused) in
+pub new_grid : (profile : Profile) (edit : GridEdit) (s : List ℕ) → Stands edit → cause_of edit s ≡ None → IsGridUnder profile s → IsGridUnder profile (section_of edit s)
+new_grid profile edit s stands uncaused grid =
+    let stated = stated_rows edit profile s grid.rows uncaused in
+    let size = as_long edit s (stands, stated, uncaused) in
     record {
       itself = record {
-        length_stands = new_head edit s grid.rows uncaused 1 4 (omega arith) (omega arith) ∙ grid.itself.length_stands ∙ sym size;
+        length_stands = new_head edit s stated uncaused 1 4 (omega arith) (omega arith) ∙ grid.itself.length_stands ∙ sym size;
         least = omega (arith, size, grid.itself.least);
-        number_stands = new_head edit s grid.rows uncaused 5 5 (omega arith) (omega arith) ∙ grid.itself.number_stands;
+        number_stands = new_head edit s stated uncaused 5 5 (omega arith) (omega arith) ∙ grid.itself.number_stands;
       };
-      rows = new_rows edit s stands grid.rows uncaused;
+      rows = grid_accepted profile (section_of edit s) (new_rows edit s stands stated uncaused);
     }
 
 -- a new column has one entry for each of its points
 pub new_points : (edit : GridEdit) (s : List ℕ) (column : Column) → Stands edit → first_fault (grid_rows s) ≡ None → cause_of edit s ≡ None
     → length (new_column edit s column).points ≡ grid_points (section_of edit s)
 new_points Rescan s column stands none uncaused =
-    let is = can_be_rescanned s none uncaused in
+    let is = can_be_rescanned Stated s none uncaused in
     rescanned_length (scanning_of (octets s 72 72)) (octets s 31 34) (octets s 35 38) column.points ∙ is.product
     ∙ sym (rescanned_head s is 7 10 (omega arith) (omega arith))
 new_points (Crop area) s column stands none uncaused =
-    let can = can_be_cut area s none uncaused in
+    let can = can_be_cut Stated area s none uncaused in
     let size = has_size area s can.lat_lon (box_of area s stands can) in
     box_length (scanning_of 0) (octets s 31 34) (octets s 35 38) column.points area.i0 (width area) area.j0 (height area)
     ∙ sym (box-points area s can.lat_lon.long (omega (arith, size.few)))

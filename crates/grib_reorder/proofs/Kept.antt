@@ -3,6 +3,8 @@ use Rattle.std.proofs.Common.{◌≡◌, ℕ, ◌+◌, ◌-◌, ◌<◌, ◌≤�
 use Rattle.std.specs.List.{range_with_len}
 use Rattle.std.proofs.lemmas.List.FromFn.{length-map-range_with_len, get_or-map-range_with_len}
 use Rattle.std.proofs.lemmas.Option.{slice_get_within, get_or_from_slice_get, slice_get-get_or}
+use Rattle.grib_base.specs.declared.profile.Profile.{Profile}
+use Rattle.grib_base.specs.declared.profile.Profile.TheVariants.{Open}
 use Rattle.grib2_grids.specs.Grid.{grid_points}
 use Rattle.grib_bitmap.specs.Mask.{mask_of}
 use Rattle.grib_packing.specs.declared.column.Column.{Column}
@@ -13,16 +15,16 @@ use Rattle.grib_packing.specs.declared.written.Packed.{Packed}
 use Rattle.grib_packing.specs.Laws.{UnpackTo}
 use Rattle.grib_packed.specs.Written.{HasWords}
 use Rattle.grib2_message.specs.Fields.{field_count, part_octets, field_mask, column_of}
-use Rattle.grib2_message.specs.Message.{IsMessage, FieldPasses}
-use Rattle.grib2_message.specs.Assembled.{PartsPass, MayBeAssembledWith}
+use Rattle.grib2_message.specs.Message.{IsMessageUnder, FieldPassesUnder}
+use Rattle.grib2_message.specs.Assembled.{PartsPass, MayBeAssembledWithUnder}
 use Rattle.grib_repack.specs.Repacked.{kind_of}
 use Rattle.grib_repack.proofs.Columns.{may_be_packed, has_words, kind_small}
-use Rattle.grib_repack.proofs.Kept.{IsWritten, Unpacks}
+use Rattle.grib_repack.proofs.Kept.{IsWritten, Unpacks, reads}
 use Rattle.grib_repack.proofs.Sections.{are_written}
 use Rattle.grib_reorder.specs.declared.edit.GridEdit.{GridEdit}
 use Rattle.grib_reorder.specs.Rescanned.{TooLong, MayBeEdited, cause_of, section_of, new_column, own_target, edited_column, edited_field, edited_fields, edited, grid_misfit, column_misfit, misfit_among, length_misfit}
 use Rattle.grib_reorder.proofs.Fields.{no_grid, no_column, none_later, each_fits}
-use Rattle.grib_reorder.proofs.Grids.{new_grid, new_points}
+use Rattle.grib_reorder.proofs.Grids.{stated_rows, new_grid, new_points}
 use Rattle.grib_reorder.proofs.Packs.{packs_as}
 use Rattle.grib_reorder.proofs.Points.{new_packable, same_reference, same_e, same_d}
 
@@ -60,11 +62,11 @@ new_words edit s column h = record {
   decimal_scale = omega (arith, same_d edit s column, h.decimal_scale);
 }
 
-module _ (written : IsWritten) (unpack : Unpacks)
-    (passes : (message : List ℕ) (i : ℕ) → IsMessage message → 1 ≤ i → i ≤ field_count message → FieldPasses message i)
-    (masks : (message : List ℕ) (i : ℕ) → IsMessage message → All (λ octet. octet < 256) message → 1 ≤ i → i ≤ field_count message
+module _ (written : IsWritten) (unpack : Unpacks) (profile : Profile)
+    (passes : (message : List ℕ) (i : ℕ) → IsMessageUnder profile message → 1 ≤ i → i ≤ field_count message → FieldPassesUnder profile message i)
+    (masks : (message : List ℕ) (i : ℕ) → IsMessageUnder profile message → All (λ octet. octet < 256) message → 1 ≤ i → i ≤ field_count message
     → length (field_mask message i) ≡ grid_points (part_octets message i 3))
-    (edit : GridEdit) (message : List ℕ) (may : MayBeEdited edit message) where
+    (edit : GridEdit) (message : List ℕ) (may : MayBeEdited profile edit message) where
   fits : (misfit_among edit message (range_with_len 1 (field_count message)) ≡ None) × (length_misfit (length (edited edit message)) ≡ None)
   fits =
       none_later (misfit_among edit message (range_with_len 1 (field_count message)))
@@ -92,18 +94,19 @@ module _ (written : IsWritten) (unpack : Unpacks)
       let column = edited_column edit message i in
       let kind = kind_of message i in
       let p = edited_field edit message i in
-      let here = passes message i may.accepted low high in
+      let here = reads profile message i (passes message i may.accepted low high) (may.readable i low high) in
       let long = masks message i may.accepted may.are_octets low high in
       let stands = (packs_as (part_octets message i 5) (grid_points s3) here.packing).target in
       let free = uncaused i low high in
-      let packable = new_packable edit s3 (column_of message i) may.stands here.grid free (may_be_packed message i here long) in
+      let rows = stated_rows edit Open s3 here.grid free in
+      let packable = new_packable edit s3 (column_of message i) may.stands rows free (may_be_packed message i here long) in
       let none : first_misfit target column.points ≡ None = no_column i (first_misfit target column.points) (field_fits i low high).1 in
       let has : HasPacked target column kind p.section5 p.section6 p.section7 =
       written target column kind packable (new_words edit s3 (column_of message i) (has_words message i may.are_octets)) stands (kind_small message i may.are_octets) none in
       record {
         has = has;
         unpacked = unpack target stands column kind p.section5 p.section6 p.section7 packable none has;
-        as_long = new_points edit s3 (column_of message i) may.stands here.grid free;
+        as_long = new_points edit s3 (column_of message i) may.stands rows free;
       }
 
   part_passes : (i : ℕ) → 1 ≤ i → i ≤ field_count message → PartsPass (grid_points (section_of edit (part_octets message i 3))) (edited_field edit message i)
@@ -121,11 +124,11 @@ module _ (written : IsWritten) (unpack : Unpacks)
         values = f.unpacked.values;
       })
 
-  pub may_be_assembled : MayBeAssembledWith (section_of edit) message (edited_fields edit message)
+  pub may_be_assembled : MayBeAssembledWithUnder profile (section_of edit) message (edited_fields edit message)
   may_be_assembled = record {
     accepted = may.accepted;
     one_each = length-map-range_with_len (edited_field edit message) 1 (field_count message);
-    grids = λ i low high grid. new_grid edit (part_octets message i 3) may.stands (uncaused i low high) grid;
+    grids = λ i low high grid. new_grid profile edit (part_octets message i 3) may.stands (uncaused i low high) grid;
     pass = λ k part e.
         let at = part_is edit message k part e in
         subst (λ (p : Packed). PartsPass (grid_points (section_of edit (part_octets message (k + 1) 3))) p) at.1

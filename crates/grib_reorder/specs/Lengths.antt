@@ -2,6 +2,7 @@
 use Rattle.std.specs.Prelude.{◌≡◌, ℕ, None, List, length}
 use Rattle.grib_bits.specs.Octets.{octets}
 use Rattle.grib_base.specs.Rows.{first_fault}
+use Rattle.grib_base.specs.declared.profile.Profile.TheVariants.{Stated}
 use Rattle.grib2_grids.specs.Grid.{grid_rows}
 use Rattle.grib_rescan.specs.Scanning.{scanning_of}
 use Rattle.grib_rescan.proofs.Kept.{rescanned-length, box-length}
@@ -12,7 +13,7 @@ use Rattle.grib_reorder.specs.Rescanned.{Stands, cause_of, section_of}
 
 pub as_long : (edit : GridEdit) (s : List ℕ) → Stands edit × (first_fault (grid_rows s) ≡ None) × (cause_of edit s ≡ None) → length (section_of edit s) ≡ length s
 as_long Rescan s h =
-    let is = can_be_rescanned s h.1 h.2 in
+    let is = can_be_rescanned Stated s h.1 h.2 in
     let order = scanning_of (octets s 72 72) in
     rescanned-length s is.long order.northward order.westward
-as_long (Crop area) s h = box-length area s (can_be_cut area s h.1 h.2).lat_lon.long
+as_long (Crop area) s h = box-length area s (can_be_cut Stated area s h.1 h.2).lat_lon.long

@@ -4,13 +4,14 @@
 use Rattle.std.specs.Prelude.{◌≡◌, ℕ, ◌<◌, ◌≤◌, cond, Option, Some, None, List, [], ◌∷◌, length, map, nat_lt, option_map, All, ◌==◌}
 use Rattle.std.specs.List.{range_with_len}
 use Rattle.grib_bits.specs.Octets.{octets}
+use Rattle.grib_base.specs.declared.profile.Profile.{Profile}
 use Rattle.grib_packing.specs.declared.column.Column.{Column}
 use Rattle.grib_packing.specs.Misfits.{Target, ToSimple, ToComplex, ToSpatial, Misfit, first_misfit}
 use Rattle.grib_packing.specs.Packing.{packing_template}
 use Rattle.grib_packing.specs.declared.written.Packed.{Packed}
 use Rattle.grib_packed.specs.Written.{packed}
 use Rattle.grib2_message.specs.Fields.{field_count, part_octets, column_of}
-use Rattle.grib2_message.specs.Message.{IsMessage}
+use Rattle.grib2_message.specs.Message.{IsMessageUnder, IsReadable}
 use Rattle.grib2_message.specs.Assembled.{assembled_with}
 use Rattle.grib_repack.specs.Repacked.{kind_of}
 use Rattle.grib_rescan.specs.declared.cause.GridCause.{GridCause}
@@ -98,9 +99,10 @@ edit_misfit edit message =
     or_later (misfit_among edit message (range_with_len 1 (field_count message)))
     (λ _. length_misfit (length (edited edit message)))
 
--- an accepted message of which nothing fails to fit
-pub record MayBeEdited (edit : GridEdit) (message : List ℕ) : Type 0 where
-  pub accepted : IsMessage message
+-- a message that a profile accepts, whose values can be read and of which nothing fails to fit
+pub record MayBeEdited (profile : Profile) (edit : GridEdit) (message : List ℕ) : Type 0 where
+  pub accepted : IsMessageUnder profile message
+  pub readable : IsReadable message
   pub are_octets : All (λ octet. octet < 256) message
   pub stands : Stands edit
   pub fits : edit_misfit edit message ≡ None

@@ -2,8 +2,9 @@
 
 ghost use Rattle.std.specs.Prelude.{◌≡◌, ◌≢◌, ℕ, ◌+◌, ◌*◌, ◌<◌, ◌≤◌, List};
 ghost use Rattle.grib_bits.specs.Octets.{octets};
+ghost use Rattle.grib_base.specs.declared.profile.Profile.{Profile};
 ghost use Rattle.grib2_message.specs.Fields.{field_count, part_octets, column_of};
-ghost use Rattle.grib2_message.specs.Message.{IsMessage};
+ghost use Rattle.grib2_message.specs.Message.{IsMessageUnder};
 ghost use Rattle.grib_rescan.specs.Scanning.{scanning_of, place};
 ghost use Rattle.grib_rescan.specs.Points.{point, width, height};
 ghost use Rattle.grib_rescan.specs.declared.points.Area.{Area as Rectangle};
@@ -18,20 +19,20 @@ use grib_packed::laws::a_packing_is_written;
 use grib_simple::laws::what_is_packed_simply_reads_back;
 use grib2_message::laws::{field_holds, what_is_assembled_with_other_grids_is_accepted};
 
-/// Where nothing of an accepted message fails to fit, the message in another order, or that of a subarea, is
-/// accepted and has as many fields. Each field has the new Section 3 and the new column, with the same R, E
+/// Where nothing of a message that a profile accepts fails to fit, and its values can be read, the message in another order,
+/// or that of a subarea, is accepted by that profile and has as many fields. Each field has the new Section 3 and the new column, with the same R, E
 /// and D, and its Sections 1, 2 and 4 as they were.
 pub fn what_is_edited_is_accepted()
-    ensures accepted { (edit : Edit) (message : List ℕ) → MayBeEdited edit message → IsMessage (edited edit message) }
-    ensures fields { (edit : Edit) (message : List ℕ) → MayBeEdited edit message
+    ensures accepted { (profile : Profile) (edit : Edit) (message : List ℕ) → MayBeEdited profile edit message → IsMessageUnder profile (edited edit message) }
+    ensures fields { (profile : Profile) (edit : Edit) (message : List ℕ) → MayBeEdited profile edit message
         → field_count (edited edit message) ≡ field_count message }
-    ensures columns { (edit : Edit) (message : List ℕ) → MayBeEdited edit message
+    ensures columns { (profile : Profile) (edit : Edit) (message : List ℕ) → MayBeEdited profile edit message
         → (i : ℕ) → 1 ≤ i → i ≤ field_count message
         → column_of (edited edit message) i ≡ edited_column edit message i }
-    ensures grids { (edit : Edit) (message : List ℕ) → MayBeEdited edit message
+    ensures grids { (profile : Profile) (edit : Edit) (message : List ℕ) → MayBeEdited profile edit message
         → (i : ℕ) → 1 ≤ i → i ≤ field_count message
         → part_octets (edited edit message) i 3 ≡ section_of edit (part_octets message i 3) }
-    ensures kept { (edit : Edit) (message : List ℕ) → MayBeEdited edit message
+    ensures kept { (profile : Profile) (edit : Edit) (message : List ℕ) → MayBeEdited profile edit message
         → (i k : ℕ) → k ≤ 4 → k ≢ 3
         → part_octets (edited edit message) i k ≡ part_octets message i k }
 {
@@ -46,7 +47,7 @@ pub fn what_is_edited_is_accepted()
 /// Each entry of a field in the order of scanning octet 0 is the old one of its place, and R, E and D are the
 /// same.
 pub fn what_is_rescanned_keeps_each_value()
-    ensures entries { (message : List ℕ) → MayBeEdited edits.Rescan message
+    ensures entries { (profile : Profile) (message : List ℕ) → MayBeEdited profile edits.Rescan message
         → (i : ℕ) → 1 ≤ i → i ≤ field_count message
         → let s = part_octets message i 3 in
         let ni = octets s 31 34 in
@@ -54,13 +55,13 @@ pub fn what_is_rescanned_keeps_each_value()
         (n m : ℕ) → n < ni * nj → m < ni * nj
         → place (scanning_of 0) ni nj n ≡ place (scanning_of (octets s 72 72)) ni nj m
         → point (column_of (edited edits.Rescan message) i).points n ≡ point (column_of message i).points m }
-    ensures reference { (message : List ℕ) → MayBeEdited edits.Rescan message
+    ensures reference { (profile : Profile) (message : List ℕ) → MayBeEdited profile edits.Rescan message
         → (i : ℕ) → 1 ≤ i → i ≤ field_count message
         → (column_of (edited edits.Rescan message) i).reference ≡ (column_of message i).reference }
-    ensures binary_scale { (message : List ℕ) → MayBeEdited edits.Rescan message
+    ensures binary_scale { (profile : Profile) (message : List ℕ) → MayBeEdited profile edits.Rescan message
         → (i : ℕ) → 1 ≤ i → i ≤ field_count message
         → (column_of (edited edits.Rescan message) i).e ≡ (column_of message i).e }
-    ensures decimal_scale { (message : List ℕ) → MayBeEdited edits.Rescan message
+    ensures decimal_scale { (profile : Profile) (message : List ℕ) → MayBeEdited profile edits.Rescan message
         → (i : ℕ) → 1 ≤ i → i ≤ field_count message
         → (column_of (edited edits.Rescan message) i).d ≡ (column_of message i).d }
 {
@@ -70,18 +71,18 @@ pub fn what_is_rescanned_keeps_each_value()
 /// The entry in column i and row j of a subarea is that in column i + i0 and row j + j0 of the field, and R, E and
 /// D are the same.
 pub fn what_is_cropped_keeps_each_value()
-    ensures entries { (area : Rectangle) (message : List ℕ) → MayBeEdited (edits.Crop area) message
+    ensures entries { (profile : Profile) (area : Rectangle) (message : List ℕ) → MayBeEdited profile (edits.Crop area) message
         → (i : ℕ) → 1 ≤ i → i ≤ field_count message
         → (x y : ℕ) → x < width area → y < height area
         → point (column_of (edited (edits.Crop area) message) i).points (y * width area + x)
         ≡ point (column_of message i).points ((area.j0 + y) * octets (part_octets message i 3) 31 34 + (area.i0 + x)) }
-    ensures reference { (area : Rectangle) (message : List ℕ) → MayBeEdited (edits.Crop area) message
+    ensures reference { (profile : Profile) (area : Rectangle) (message : List ℕ) → MayBeEdited profile (edits.Crop area) message
         → (i : ℕ) → 1 ≤ i → i ≤ field_count message
         → (column_of (edited (edits.Crop area) message) i).reference ≡ (column_of message i).reference }
-    ensures binary_scale { (area : Rectangle) (message : List ℕ) → MayBeEdited (edits.Crop area) message
+    ensures binary_scale { (profile : Profile) (area : Rectangle) (message : List ℕ) → MayBeEdited profile (edits.Crop area) message
         → (i : ℕ) → 1 ≤ i → i ≤ field_count message
         → (column_of (edited (edits.Crop area) message) i).e ≡ (column_of message i).e }
-    ensures decimal_scale { (area : Rectangle) (message : List ℕ) → MayBeEdited (edits.Crop area) message
+    ensures decimal_scale { (profile : Profile) (area : Rectangle) (message : List ℕ) → MayBeEdited profile (edits.Crop area) message
         → (i : ℕ) → 1 ≤ i → i ≤ field_count message
         → (column_of (edited (edits.Crop area) message) i).d ≡ (column_of message i).d }
 {

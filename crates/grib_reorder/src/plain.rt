@@ -7,7 +7,7 @@ ghost use Rattle.grib_reorder.specs.Plain.{plain_column, PlainStands};
 
 use grib_packing::{Simple, numbers_of};
 use grib_rescan::Numbers;
-use grib2_message::Message;
+use grib2_message::ReadableMessage;
 use std::alloc::{AllocError, Global};
 
 /// A field in simple packing none of whose points is missing: no column is made of it.
@@ -24,7 +24,7 @@ pub(crate) struct PlainField<'a> {
 /// There is no memory for its mask.
 pub(crate) fn plain_field<'a>(
     alloc: Global,
-    message: &Message<'a>,
+    message: &ReadableMessage<'a>,
     field: u32,
 ) -> Result<Option<PlainField<'a>>, AllocError>
     requires first { 1 ≤ field }

@@ -15,7 +15,7 @@ use grib_packed::laws::one_packing_is_written;
 use grib_packing::{Column, PackFault, Packed};
 use grib_rescan::Area;
 use grib_rescan::laws::what_has_no_cause;
-use grib2_message::Message;
+use grib2_message::ReadableMessage;
 use std::alloc::Global;
 
 /// The message with the points of its grids in the order of scanning octet 0: rows from the north, and points
@@ -29,7 +29,7 @@ use std::alloc::Global;
 /// The first cause, field by field: the grid is not one of template 3.0 without a list of rows; the scanning
 /// mode has one of bits 5 to 8; the field does not fit its packing. Else the new message would have more than
 /// 268,435,456 octets; or there is no memory.
-pub fn rescan(alloc: Global, message: &Message<'_>) -> Result<Vec<u8>, RescanFault>
+pub fn rescan(alloc: Global, message: &ReadableMessage<'_>) -> Result<Vec<u8>, RescanFault>
     ensures { MatchResult result
         (λ octets. (edit_misfit edits.Rescan message.now ≡ None) × (octets.items ≡ edited edits.Rescan message.now))
         (IsRescanFault (edit_misfit edits.Rescan message.now)) }
@@ -48,7 +48,11 @@ pub fn rescan(alloc: Global, message: &Message<'_>) -> Result<Vec<u8>, RescanFau
 /// octet is not 0; the subarea does not lie in the grid; the increments do not lead from the first point to the
 /// last; the field does not fit its packing. Else the new message would have more than 268,435,456 octets;
 /// or there is no memory.
-pub fn crop(alloc: Global, message: &Message<'_>, area: &Area) -> Result<Vec<u8>, RescanFault>
+pub fn crop(
+    alloc: Global,
+    message: &ReadableMessage<'_>,
+    area: &Area,
+) -> Result<Vec<u8>, RescanFault>
     requires columns { area.now.i0 ≤ area.now.i1 }
     requires rows { area.now.j0 ≤ area.now.j1 }
     ensures { MatchResult result
@@ -66,7 +70,7 @@ pub fn crop(alloc: Global, message: &Message<'_>, area: &Area) -> Result<Vec<u8>
 /// As those of `rescan` and of `crop`.
 pub fn edit_message(
     alloc: Global,
-    message: &Message<'_>,
+    message: &ReadableMessage<'_>,
     edit: &GridEdit,
 ) -> Result<Vec<u8>, RescanFault>
     requires { Stands edit.now }
@@ -81,7 +85,7 @@ pub fn edit_message(
 /// Sections 5, 6 and 7 of each field of the message.
 fn edit_fields(
     alloc: Global,
-    message: &Message<'_>,
+    message: &ReadableMessage<'_>,
     edit: &GridEdit,
 ) -> Result<Vec<Packed>, RescanFault>
     requires { Stands edit.now }
@@ -103,7 +107,7 @@ fn edit_fields(
 /// Sections 5, 6 and 7 of one field, counted from 1.
 fn edit_field(
     alloc: Global,
-    message: &Message<'_>,
+    message: &ReadableMessage<'_>,
     field: u32,
     edit: &GridEdit,
 ) -> Result<Packed, RescanFault>
@@ -131,7 +135,7 @@ fn edit_field(
 /// The new column of one field, counted from 1.
 fn edit_column(
     alloc: Global,
-    message: &Message<'_>,
+    message: &ReadableMessage<'_>,
     field: u32,
     edit: &GridEdit,
 ) -> Result<Column, RescanFault>

@@ -3,6 +3,8 @@ use Rattle.std.proofs.Common.{◌≡◌, ℕ, ◌+◌, ◌-◌, ◌<◌, ◌≤�
 use Rattle.std.specs.List.{range_with_len}
 use Rattle.std.proofs.lemmas.List.FromFn.{length-map-range_with_len, get_or-map-range_with_len}
 use Rattle.std.proofs.lemmas.Option.{slice_get_within, get_or_from_slice_get, slice_get-get_or}
+use Rattle.grib_base.specs.declared.profile.Profile.{Profile}
+use Rattle.grib_base.specs.declared.profile.Profile.TheVariants.{Open}
 use Rattle.grib2_grids.specs.Grid.{grid_points}
 use Rattle.grib_bitmap.specs.Mask.{mask_of}
 use Rattle.grib_packing.specs.declared.column.Column.{Column}
@@ -14,8 +16,9 @@ use Rattle.grib_packing.specs.Laws.{UnpackTo}
 use Rattle.grib_packing.specs.Written.{MayBePacked, IsTarget}
 use Rattle.grib_packed.specs.Written.{HasWords, packed}
 use Rattle.grib2_message.specs.Fields.{field_count, part_octets, field_mask, column_of}
-use Rattle.grib2_message.specs.Message.{IsMessage, FieldPasses}
-use Rattle.grib2_message.specs.Assembled.{PartsPass, MayBeAssembled}
+use Rattle.grib2_message.specs.Message.{IsMessageUnder, FieldPassesUnder, FieldReads, HasValues}
+use Rattle.grib2_message.specs.Assembled.{PartsPass, MayBeAssembledUnder}
+use Rattle.grib2_message.proofs.Opened.{field_opened, field_read}
 use Rattle.grib_repack.specs.Repacked.{OutputTooLong, MayBeRepacked, kind_of, packed_field, packed_fields, repacked, in_field, misfit_among, length_misfit}
 use Rattle.grib_repack.proofs.Fields.{none_later, each_fits}
 use Rattle.grib_repack.proofs.Sections.{are_written}
@@ -72,11 +75,15 @@ module _ (target : Target) (message : List ℕ) where
       slice_get-get_or (packed_fields target message) (i - 1) d within
       ∙ ap Some (get_or-map-range_with_len (packed_field target message) 1 count (i - 1) i d below place)
 
-module _ (written : IsWritten) (unpack : Unpacks)
-    (passes : (message : List ℕ) (i : ℕ) → IsMessage message → 1 ≤ i → i ≤ field_count message → FieldPasses message i)
-    (masks : (message : List ℕ) (i : ℕ) → IsMessage message → All (λ octet. octet < 256) message → 1 ≤ i → i ≤ field_count message
+-- a field whose values can be read
+pub reads : (profile : Profile) (message : List ℕ) (i : ℕ) → FieldPassesUnder profile message i → HasValues message i → FieldReads message i
+reads profile message i passes read = field_read Open message i (field_opened profile message i passes) read
+
+module _ (written : IsWritten) (unpack : Unpacks) (profile : Profile)
+    (passes : (message : List ℕ) (i : ℕ) → IsMessageUnder profile message → 1 ≤ i → i ≤ field_count message → FieldPassesUnder profile message i)
+    (masks : (message : List ℕ) (i : ℕ) → IsMessageUnder profile message → All (λ octet. octet < 256) message → 1 ≤ i → i ≤ field_count message
     → length (field_mask message i) ≡ grid_points (part_octets message i 3))
-    (target : Target) (message : List ℕ) (may : MayBeRepacked target message) where
+    (target : Target) (message : List ℕ) (may : MayBeRepacked profile target message) where
   -- all that is known of field i
   record Field (i : ℕ) : Type 0 where
     pub has : HasPacked target (column_of message i) (kind_of message i) (packed_field target message i).section5 (packed_field target message i).section6 (packed_field target message i).section7
@@ -93,7 +100,7 @@ module _ (written : IsWritten) (unpack : Unpacks)
       let column = column_of message i in
       let kind = kind_of message i in
       let p = packed_field target message i in
-      let here = passes message i may.accepted low high in
+      let here = reads profile message i (passes message i may.accepted low high) (may.readable i low high) in
       let long = masks message i may.accepted may.are_octets low high in
       let packable = may_be_packed message i here long in
       let none : first_misfit target column.points ≡ None = no_misfit i (first_misfit target column.points) (each_fits target message (field_count message) i fits.0 low high) in
@@ -120,7 +127,7 @@ module _ (written : IsWritten) (unpack : Unpacks)
         values = f.unpacked.values;
       })
 
-  pub may_be_assembled : MayBeAssembled message (packed_fields target message)
+  pub may_be_assembled : MayBeAssembledUnder profile message (packed_fields target message)
   may_be_assembled = record {
     accepted = may.accepted;
     one_each = length-map-range_with_len (packed_field target message) 1 (field_count message);

@@ -3,6 +3,7 @@
 -- the type of the original values, alone. All other octets but the total length stay.
 use Rattle.std.specs.Prelude.{◌≡◌, ℕ, ◌<◌, cond, Option, Some, None, List, [], ◌∷◌, length, map, nat_lt, option_map, All}
 use Rattle.std.specs.List.{range_with_len}
+use Rattle.grib_base.specs.declared.profile.Profile.{Profile}
 use Rattle.grib_bits.specs.Octets.{octets}
 use Rattle.grib_packing.specs.Misfits as packing
 use Rattle.grib_packing.specs.Misfits.{Target, Misfit, first_misfit}
@@ -10,7 +11,7 @@ use Rattle.grib_packing.specs.declared.written.Packed.{Packed}
 use Rattle.grib_packing.specs.Written.{IsTarget}
 use Rattle.grib_packed.specs.Written.{packed}
 use Rattle.grib2_message.specs.Fields.{field_count, part_octets, column_of}
-use Rattle.grib2_message.specs.Message.{IsMessage}
+use Rattle.grib2_message.specs.Message.{IsMessageUnder, IsReadable}
 use Rattle.grib2_message.specs.Assembled.{assembled}
 
 -- the type of the original values of field i (code table 5.1)
@@ -65,9 +66,10 @@ repack_misfit target message =
     or_later (misfit_among target message (range_with_len 1 (field_count message)))
     (λ _. length_misfit (length (repacked target message)))
 
--- an accepted message of which nothing fails to fit
-pub record MayBeRepacked (target : Target) (message : List ℕ) : Type 0 where
-  pub accepted : IsMessage message
+-- a message that a profile accepts, whose values can be read and of which nothing fails to fit
+pub record MayBeRepacked (profile : Profile) (target : Target) (message : List ℕ) : Type 0 where
+  pub accepted : IsMessageUnder profile message
+  pub readable : IsReadable message
   pub are_octets : All (λ octet. octet < 256) message
   pub target_stands : IsTarget target
   pub fits : repack_misfit target message ≡ None

@@ -12,7 +12,7 @@ use grib_bits::u8_at;
 use grib_complex::{pack_complex, pack_spatial};
 use grib_packing::{Column, PackFault, Packed, Packing};
 use grib_simple::SimplePacking;
-use grib2_message::Message;
+use grib2_message::ReadableMessage;
 use std::alloc::Global;
 
 /// Sections 5, 6 and 7 of one field, counted from 1, from its column, which is made where it is not handed in.
@@ -22,7 +22,7 @@ use std::alloc::Global;
 /// The first misfit of the column of the field, or there is no memory.
 pub(crate) fn pack_by_column(
     alloc: Global,
-    message: &Message<'_>,
+    message: &ReadableMessage<'_>,
     field: u32,
     column: Option<&Column>,
     target: RepackTarget,

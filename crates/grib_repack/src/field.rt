@@ -13,7 +13,7 @@ use crate::groups::pack_in_groups;
 use crate::plain::pack_simply;
 use grib_bits::u16_at;
 use grib_packing::{Column, PackFault, Packed};
-use grib2_message::Message;
+use grib2_message::ReadableMessage;
 use std::alloc::Global;
 
 /// Sections 5, 6 and 7 of one field, counted from 1, in the packing of a target; none where a quick look at groups shows
@@ -26,7 +26,7 @@ use std::alloc::Global;
 /// The first misfit of the column of the field, or there is no memory.
 pub fn pack_field(
     alloc: Global,
-    message: &Message<'_>,
+    message: &ReadableMessage<'_>,
     field: u32,
     column: Option<&Column>,
     target: RepackTarget,

@@ -15,7 +15,7 @@ use crate::RepackTarget;
 use crate::column::pack_by_column;
 use grib_complex::{PointWords, pack_codes};
 use grib_packing::{Column, PackFault, Packed, Simple, numbers_of};
-use grib2_message::Message;
+use grib2_message::ReadableMessage;
 use std::alloc::{AllocError, Global};
 
 /// Sections 5, 6 and 7 of one field, counted from 1, in the groups of 1 to 64 points that take the fewest bits; none where
@@ -28,7 +28,7 @@ use std::alloc::{AllocError, Global};
 /// memory.
 pub(crate) fn pack_in_groups(
     alloc: Global,
-    message: &Message<'_>,
+    message: &ReadableMessage<'_>,
     field: u32,
     column: Option<&Column>,
     below: Option<u64>,
@@ -58,7 +58,7 @@ pub(crate) fn pack_in_groups(
 /// There is no memory for the words.
 fn point_words(
     alloc: Global,
-    message: &Message<'_>,
+    message: &ReadableMessage<'_>,
     field: u32,
     simple: &Simple,
 ) -> Result<PointWords, AllocError>
@@ -83,7 +83,7 @@ fn point_words(
 /// There is no memory for the words.
 fn value_words(
     alloc: Global,
-    message: &Message<'_>,
+    message: &ReadableMessage<'_>,
     field: u32,
     simple: &Simple,
 ) -> Result<PointWords, AllocError>

@@ -3,6 +3,7 @@
 ghost use Rattle.std.specs.Prelude.{◌≡◌, ℕ, ◌≤◌, List, Bool, Option, Ok, Result, MatchResult, length};
 ghost use Rattle.grib_base.specs.declared.fault.ReadFault as read_fault;
 ghost use Rattle.grib_base.specs.declared.fault.ReadFault.TheVariants.{Memory};
+ghost use Rattle.grib_base.specs.declared.profile.Profile.{Profile};
 ghost use Rattle.grib_bitmap.specs.Mask.{mask_of};
 ghost use Rattle.grib_packing.specs.declared.column.Column as column_packing;
 ghost use Rattle.grib_packing.specs.declared.written.Packed as packed_packing;
@@ -10,7 +11,7 @@ ghost use Rattle.grib_packing.specs.Misfits.{Target};
 ghost use Rattle.grib_packing.specs.Unpacked.{IsUnpacked, MayBeUnpacked};
 ghost use Rattle.grib_packing.specs.Written.{IsPacked, MayBePacked};
 ghost use Rattle.grib2_message.specs.Fields.{field_count, part_octets, column_of, meaning_of};
-ghost use Rattle.grib2_message.specs.Message.{IsMessage};
+ghost use Rattle.grib2_message.specs.Message.{IsMessageUnder};
 ghost use Rattle.grib_repack.specs.Repacked.{repacked, MayBeRepacked};
 
 use grib_complex::laws::{
@@ -21,21 +22,21 @@ use grib_packing::Packing;
 use grib_simple::laws::what_is_packed_simply_reads_back;
 use grib2_message::laws::{field_holds, what_is_assembled_is_accepted};
 
-/// What is repacked keeps each value: where nothing of an accepted message fails to fit, the repacked message
-/// is accepted and has as many fields. Each field has the same column, so that each of its points means the
+/// What is repacked keeps each value: where nothing of a message that a profile accepts fails to fit, and its values can be
+/// read, the repacked message is accepted by that profile and has as many fields. Each field has the same column, so that each of its points means the
 /// same, and its Sections 1 to 4 as they were.
 pub fn what_is_repacked_keeps_each_value()
-    ensures accepted { (target : Target) (message : List ℕ) → MayBeRepacked target message
-        → IsMessage (repacked target message) }
-    ensures fields { (target : Target) (message : List ℕ) → MayBeRepacked target message
+    ensures accepted { (profile : Profile) (target : Target) (message : List ℕ) → MayBeRepacked profile target message
+        → IsMessageUnder profile (repacked target message) }
+    ensures fields { (profile : Profile) (target : Target) (message : List ℕ) → MayBeRepacked profile target message
         → field_count (repacked target message) ≡ field_count message }
-    ensures columns { (target : Target) (message : List ℕ) → MayBeRepacked target message
+    ensures columns { (profile : Profile) (target : Target) (message : List ℕ) → MayBeRepacked profile target message
         → (i : ℕ) → 1 ≤ i → i ≤ field_count message
         → column_of (repacked target message) i ≡ column_of message i }
-    ensures meanings { (target : Target) (message : List ℕ) → MayBeRepacked target message
+    ensures meanings { (profile : Profile) (target : Target) (message : List ℕ) → MayBeRepacked profile target message
         → (i : ℕ) → 1 ≤ i → i ≤ field_count message
         → meaning_of (repacked target message) i ≡ meaning_of message i }
-    ensures kept { (target : Target) (message : List ℕ) → MayBeRepacked target message
+    ensures kept { (profile : Profile) (target : Target) (message : List ℕ) → MayBeRepacked profile target message
         → (i k : ℕ) → k ≤ 4
         → part_octets (repacked target message) i k ≡ part_octets message i k }
 {

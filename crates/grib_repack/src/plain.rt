@@ -8,7 +8,7 @@ ghost use Rattle.grib_repack.specs.Repacked.{kind_of};
 
 use grib_packing::{PackFault, Packed, Packing, numbers_of};
 use grib_simple::{SimplePacking, pack_numbers};
-use grib2_message::Message;
+use grib2_message::ReadableMessage;
 use std::alloc::Global;
 
 /// Sections 5, 6 and 7 of one field, counted from 1, in simple packing. A field that stands in simple packing
@@ -18,7 +18,11 @@ use std::alloc::Global;
 ///
 /// A point is secondary missing, a scaled integer is negative or has more than 48 bits, or there is no
 /// memory.
-pub fn pack_simply(alloc: Global, message: &Message<'_>, field: u32) -> Result<Packed, PackFault>
+pub fn pack_simply(
+    alloc: Global,
+    message: &ReadableMessage<'_>,
+    field: u32,
+) -> Result<Packed, PackFault>
     requires first { 1 ≤ field }
     requires last { field ≤ field_count message.now }
     ensures { IsPacked ToSimple (column_of message.now field) (kind_of message.now field) result }

@@ -12,7 +12,7 @@ use crate::field::pack_field;
 use crate::{RepackFault, RepackTarget};
 use grib_packed::laws::one_packing_is_written;
 use grib_packing::Packed;
-use grib2_message::Message;
+use grib2_message::ReadableMessage;
 use std::alloc::Global;
 
 /// The message with the same fields, packed to the target: Sections 5, 6 and 7 of each field are written
@@ -26,7 +26,7 @@ use std::alloc::Global;
 /// 268,435,456 octets; or there is no memory.
 pub fn repack(
     alloc: Global,
-    message: &Message<'_>,
+    message: &ReadableMessage<'_>,
     target: RepackTarget,
 ) -> Result<Vec<u8>, RepackFault>
     requires { IsTarget (target_of target) }
@@ -42,7 +42,7 @@ pub fn repack(
 /// Sections 5, 6 and 7 of each field of the message.
 fn pack_fields(
     alloc: Global,
-    message: &Message<'_>,
+    message: &ReadableMessage<'_>,
     target: RepackTarget,
 ) -> Result<Vec<Packed>, RepackFault>
     requires { IsTarget (target_of target) }
@@ -66,7 +66,7 @@ fn pack_fields(
 /// Sections 5, 6 and 7 of one field, counted from 1.
 fn repack_field(
     alloc: Global,
-    message: &Message<'_>,
+    message: &ReadableMessage<'_>,
     field: u32,
     target: RepackTarget,
 ) -> Result<Packed, RepackFault>

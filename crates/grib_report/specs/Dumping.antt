@@ -8,7 +8,7 @@ use Rattle.grib2_message.specs.Fields.{column_of}
 use Rattle.grib1_sections.specs.Column.{column1_of}
 use Rattle.grib_text.specs.Lines.{list_line, reference_line, point_lines}
 use Rattle.grib_text.specs.Lines1.{list_line1}
-use Rattle.grib_command.specs.Command.{Command, printing_fields}
+use Rattle.grib_command.specs.Command.{Command, printing_fields, reading_values}
 
 -- what is printed of a field with this list line and this reference value, in both editions
 abbrev pub dumped : List ℕ → Binary → Column → List ℕ
@@ -25,4 +25,4 @@ dump_text message m i =
     let column = column_of message i in dumped (list_line message m i) (reduced (ieee column.reference)) column
 
 abbrev pub dump_command : Command
-dump_command = printing_fields dump_text_1 dump_text
+dump_command = reading_values (printing_fields dump_text_1 dump_text)

@@ -9,7 +9,7 @@ use Rattle.grib1_sections.specs.Column.{column1_of}
 use Rattle.grib_decimal.specs.Summary.{summary_of}
 use Rattle.grib_text.specs.Lines.{reference_line}
 use Rattle.grib_text.specs.Stats.{stats_line}
-use Rattle.grib_command.specs.Command.{Command, printing_fields}
+use Rattle.grib_command.specs.Command.{Command, printing_fields, reading_values}
 
 -- what is printed of field i of message m, with this reference value, in both editions
 abbrev pub summed : ℕ → ℕ → Binary → Column → List ℕ
@@ -25,4 +25,4 @@ abbrev pub stats_text : List ℕ → ℕ → ℕ → List ℕ
 stats_text message m i = let column = column_of message i in summed m i (reduced (ieee column.reference)) column
 
 abbrev pub stats_command : Command
-stats_command = printing_fields stats_text_1 stats_text
+stats_command = reading_values (printing_fields stats_text_1 stats_text)

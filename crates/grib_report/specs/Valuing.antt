@@ -5,6 +5,7 @@ use Rattle.std.proofs.Common.{sym, ap}
 use Rattle.grib_bits.specs.Bits.{bits_of, signed}
 use Rattle.grib_dyadic.specs.Reference.{Binary, ieee, ibm, reduced}
 use Rattle.grib_base.specs.declared.limits.TheConstants.{MOST_OCTETS}
+use Rattle.grib_base.specs.declared.profile.Profile.TheVariants.{Stated}
 use Rattle.grib_packing.specs.declared.column.Column.{Column}
 use Rattle.grib2_message.specs.Fields.{field_count, column_of}
 use Rattle.grib1_sections.specs.Column.{column1_of}
@@ -16,12 +17,13 @@ use Rattle.grib_text.specs.Lines.{list_line, reference_line}
 use Rattle.grib_text.specs.Lines1.{list_line1}
 use Rattle.grib_text.specs.Values.{value_lines}
 use Rattle.grib_stream.specs.declared.outcome.Outcome.{Outcome}
+use Rattle.grib_stream.specs.declared.place.Place.{Place}
 use Rattle.grib_stream.specs.Acts.{Act}
 use Rattle.grib_stream.specs.Outcomes.{is_of_message}
 use Rattle.grib_stream.specs.Task.{Given, Gives, Ends}
 use Rattle.grib_command.specs.declared.ending.Ending.TheVariants.{Silent}
-use Rattle.grib_command.specs.Command.{Command, IsLawfulCommand, given_text, kept_at, texts_from}
-use Rattle.grib_command.specs.LawfulCommands.{none_counted}
+use Rattle.grib_command.specs.Command.{Command, IsLawfulCommand, given_text, kept_at, reading_values, texts_from}
+use Rattle.grib_command.specs.LawfulCommands.{none_counted, reading_lawful}
 
 abbrev pub scale_by : ℕ → Binary → Column → Scale
 scale_by places reference column = scale reference (signed (bits_of 16 column.e)) (signed (bits_of 16 column.d)) places
@@ -71,15 +73,24 @@ abbrev pub text_unless : Option Cause → ℕ → List ℕ → Given
 text_unless None m text = given_text text
 text_unless (Some cause) m text = Ends (kept_at m cause)
 
-abbrev pub value_command : ℕ → Command
-value_command places = record {
+-- what a message of edition 2 gives whose values can be read
+abbrev pub second_given : ℕ → Place → List ℕ → Given
+second_given places place message =
+    text_unless (cause_2 places message) place.message (texts_from (value_text places message place.message) (field_count message) 1)
+
+-- what a message of edition 1 gives, and one of edition 2 whose values can be read
+abbrev pub texts_command : ℕ → Command
+texts_command places = record {
   first = λ place message. text_unless (cause_1 places message) place.message (value_text_1 places message place.message);
-  second = λ place message.
-      text_unless (cause_2 places message) place.message (texts_from (value_text places message place.message) (field_count message) 1);
+  second = second_given places;
   ending = Silent;
   uses_shelf = false;
   hears = false;
+  profile = Stated;
 }
+
+abbrev pub value_command : ℕ → Command
+value_command places = reading_values (texts_command places)
 
 -- ---- it is lawful
 
@@ -92,10 +103,13 @@ ends_unless : (cause : Option Cause) (m : ℕ) (text : List ℕ) (outcome : Outc
 ends_unless None m text outcome is = let no : ⊥ = cc in absurd no
 ends_unless (Some cause) m text outcome is = let same : kept_at m cause ≡ outcome = cc in sym (ap is_of_message same)
 
-pub value_lawful : (places : ℕ) → IsLawfulCommand (value_command places)
-value_lawful places = record {
+texts_lawful : (places : ℕ) → IsLawfulCommand (texts_command places)
+texts_lawful places = record {
   few_first = λ place message acts written h is. few_unless (cause_1 places message) place.message _ acts written message is;
   few_second = λ place message acts written h is. few_unless (cause_2 places message) place.message _ acts written message is;
   ends_first = λ place message outcome is. ends_unless (cause_1 places message) place.message _ outcome is;
   ends_second = λ place message outcome is. ends_unless (cause_2 places message) place.message _ outcome is;
 }
+
+pub value_lawful : (places : ℕ) → IsLawfulCommand (value_command places)
+value_lawful places = reading_lawful (texts_command places) (texts_lawful places)

@@ -2,8 +2,9 @@
 
 ghost use Rattle.std.specs.Prelude.{◌≡◌, ℕ, List, length};
 ghost use Rattle.grib2_sections.specs.Verdict.{Accepted};
-ghost use Rattle.grib2_message.specs.Acceptance.{verdict_2};
-ghost use Rattle.grib2_arrival.specs.Heard.{Heard};
+ghost use Rattle.grib_base.specs.declared.profile.Profile.{Profile};
+ghost use Rattle.grib2_message.specs.Acceptance.{verdict_under};
+ghost use Rattle.grib2_arrival.specs.Heard.{HeardUnder};
 ghost use Rattle.grib2_message.specs.Fields.{field_count};
 ghost use Rattle.grib_text.specs.Lines as printed_lines;
 ghost use Rattle.grib_command.specs.Pending.{WritesTo};
@@ -115,9 +116,10 @@ fn write_heard<T: Sink>(
     arrival: &Arrival,
     output: &mut T,
 ) -> Result<(), Stop>
-    requires whole { (octets : List ℕ) × Heard arrival.now octets
-        × (verdict_2 octets ≡ Accepted (length octets)) }
-    ensures { (octets : List ℕ) → Heard arrival.now octets → verdict_2 octets ≡ Accepted (length octets)
+    requires whole { (profile : Profile) × (octets : List ℕ) × HeardUnder profile arrival.now octets
+        × (verdict_under profile octets ≡ Accepted (length octets)) }
+    ensures { (profile : Profile) (octets : List ℕ) → HeardUnder profile arrival.now octets
+        → verdict_under profile octets ≡ Accepted (length octets)
         → WritesTo T.contents T.faults T.settled result output.old output.new
         (printed_lines.check_line place.now.message place.now.before 2 (length octets) (field_count octets)) }
 {

@@ -5,7 +5,7 @@ ghost use Rattle.grib_report.specs.Dumping as dumps;
 ghost use Rattle.grib_command.specs.Pending.{WritesToAllBut};
 
 use crate::points::{ROOM, append_points, append_text};
-use crate::printing::Printer;
+use crate::value_printing::ValuePrinter;
 use crate::references::ieee_reference;
 use grib_command::write_whole;
 use grib_dyadic::Dyadic;
@@ -13,23 +13,19 @@ use grib_io::{Sink, Stop};
 use grib_packing::Column;
 use grib_text::{list_line, list_line1, reference_line};
 use grib1_sections::Message1;
-use grib2_arrival::Arrival;
-use grib2_message::Message;
+use grib2_message::ReadableMessage;
 use std::alloc::Global;
 
 /// Prints the list line, the reference line and the points of a field.
 #[derive(Clone, Copy, Debug)]
 pub struct Dumping;
 
-impl Printer for Dumping {
-    ghost use Rattle.std.specs.Prelude.{false};
+impl ValuePrinter for Dumping {
     ghost use Rattle.grib_report.specs.Dumping.{dump_text, dump_text_1};
 
     ghost first_text = { λ dumping. dump_text_1 };
 
     ghost field_text = { λ dumping. dump_text };
-
-    ghost hearing = { λ dumping. false };
 
     fn write_first<T: Sink>(
         &self,
@@ -57,30 +53,15 @@ impl Printer for Dumping {
         &self,
         alloc: Global,
         number: u64,
-        message: &Message<'_>,
+        message: &ReadableMessage<'_>,
         field: u32,
         lines: &mut Vec<u8>,
         output: &mut T,
     ) -> Result<(), Stop> {
         let column = message.column(alloc, field)?;
         let reference = ieee_reference(column.reference);
-        let listed = list_line(alloc, message, number, field)?;
+        let listed = list_line(alloc, message.message(), number, field)?;
         append_dump(alloc, listed.as_slice(), &reference, &column, lines, output)
-    }
-
-    /// No message is heard.
-    fn hears(&self) -> bool {
-        false
-    }
-
-    fn write_heard<T: Sink>(
-        &self,
-        _alloc: Global,
-        _number: u64,
-        _arrival: &Arrival,
-        _output: &mut T,
-    ) -> Result<(), Stop> {
-        Err(Stop::Memory)
     }
 }
 

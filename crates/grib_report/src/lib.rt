@@ -15,6 +15,7 @@ mod printing;
 mod references;
 mod scaling;
 mod summing;
+mod value_printing;
 mod valuing;
 
 pub use checking::Checking;
@@ -28,4 +29,5 @@ pub use printing::{Printer, Printing};
 pub use references::ieee_reference;
 pub use scaling::{Scaling, field_scaling, message_scaling1};
 pub use summing::Summing;
+pub use value_printing::{PrintingValues, ValuePrinter};
 pub use valuing::Valuing;

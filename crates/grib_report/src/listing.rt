@@ -2,9 +2,10 @@
 
 ghost use Rattle.std.specs.Prelude.{◌≡◌, ◌≤◌, ◌++◌, ℕ, List, length};
 ghost use Rattle.grib2_sections.specs.Verdict.{Accepted};
-ghost use Rattle.grib2_message.specs.Acceptance.{verdict_2};
+ghost use Rattle.grib_base.specs.declared.profile.Profile.{Profile};
+ghost use Rattle.grib2_message.specs.Acceptance.{verdict_under};
 ghost use Rattle.grib2_message.specs.Fields.{field_count};
-ghost use Rattle.grib2_arrival.specs.Heard.{Heard};
+ghost use Rattle.grib2_arrival.specs.Heard.{HeardUnder};
 ghost use Rattle.grib_text.specs.Lines.{list_line};
 ghost use Rattle.grib_command.specs.Command.{texts_from};
 ghost use Rattle.grib_command.specs.Pending.{WritesToAllBut};
@@ -84,9 +85,10 @@ fn append_heard<T: Sink>(
     lines: &mut Vec<u8>,
     output: &mut T,
 ) -> Result<(), Stop>
-    requires whole { (octets : List ℕ) × Heard arrival.now octets
-        × (verdict_2 octets ≡ Accepted (length octets)) }
-    ensures { (octets : List ℕ) → Heard arrival.now octets → verdict_2 octets ≡ Accepted (length octets)
+    requires whole { (profile : Profile) × (octets : List ℕ) × HeardUnder profile arrival.now octets
+        × (verdict_under profile octets ≡ Accepted (length octets)) }
+    ensures { (profile : Profile) (octets : List ℕ) → HeardUnder profile arrival.now octets
+        → verdict_under profile octets ≡ Accepted (length octets)
         → WritesToAllBut T.contents T.faults T.settled result output.old output.new
         (lines.old.items ++ texts_from (list_line octets number) (field_count octets) 1) lines.new.items }
 {
@@ -107,10 +109,10 @@ fn append_field<T: Sink>(
     output: &mut T,
 ) -> Result<(), Stop>
     requires first { 1 ≤ field }
-    requires whole { (octets : List ℕ) × Heard arrival.now octets
-        × (verdict_2 octets ≡ Accepted (length octets)) × (field ≤ field_count octets) }
-    ensures { (octets : List ℕ) → Heard arrival.now octets → verdict_2 octets ≡ Accepted (length octets)
-        → field ≤ field_count octets
+    requires whole { (profile : Profile) × (octets : List ℕ) × HeardUnder profile arrival.now octets
+        × (verdict_under profile octets ≡ Accepted (length octets)) × (field ≤ field_count octets) }
+    ensures { (profile : Profile) (octets : List ℕ) → HeardUnder profile arrival.now octets
+        → verdict_under profile octets ≡ Accepted (length octets) → field ≤ field_count octets
         → WritesToAllBut T.contents T.faults T.settled result output.old output.new
         (lines.old.items ++ list_line octets number field) lines.new.items }
 {

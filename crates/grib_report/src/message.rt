@@ -7,7 +7,7 @@ ghost use Rattle.grib_decimal.specs.Summary.{summary_of};
 use crate::keeping::Tallying;
 use crate::placing::placed;
 use grib_decimal::Summary;
-use grib2_message::Message;
+use grib2_message::ReadableMessage;
 use std::alloc::{AllocError, Global};
 
 /// The summary of the points of a field. Fields count from 1. No column is made.
@@ -15,7 +15,7 @@ use std::alloc::{AllocError, Global};
 /// # Errors
 ///
 /// There is no memory for the mask or the groups of the field.
-pub fn field_sums(alloc: Global, message: &Message<'_>, field: u32) -> Result<Summary, AllocError>
+pub fn field_sums(alloc: Global, message: &ReadableMessage<'_>, field: u32) -> Result<Summary, AllocError>
     requires first { 1 ≤ field }
     requires last { field ≤ field_count message.now }
     ensures { IfOk result (λ sums. sums ≡ summary_of (column_of message.now field).points) }

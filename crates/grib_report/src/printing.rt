@@ -2,13 +2,14 @@
 
 ghost use Rattle.std.specs.Prelude.{◌≡◌, ◌≤◌, ◌++◌, ℕ, Bool, true, List, length};
 ghost use Rattle.grib2_sections.specs.Verdict.{Accepted};
-ghost use Rattle.grib2_message.specs.Acceptance.{verdict_2};
-ghost use Rattle.grib2_arrival.specs.Heard.{Heard};
+ghost use Rattle.grib_base.specs.declared.profile.Profile.{Profile};
+ghost use Rattle.grib2_message.specs.Acceptance.{verdict_under};
+ghost use Rattle.grib2_arrival.specs.Heard.{HeardUnder};
 ghost use Rattle.grib2_message.specs.Fields.{field_count};
 ghost use Rattle.grib_command.specs.Command.{texts_from};
 ghost use Rattle.grib_command.specs.Pending.{WritesTo, WritesToAllBut};
 
-use crate::fields::{FieldPrinter, write_fields};
+use crate::fields::{FieldTexts, write_fields};
 use grib_command::{Answered, Ending, Writer, printed};
 use grib_io::{Sink, Stop};
 use grib_stream::Place;
@@ -67,10 +68,11 @@ pub trait Printer {
         arrival: &Arrival,
         output: &mut T,
     ) -> Result<(), Stop>
-        requires whole { (octets : List ℕ) × Heard arrival.now octets
-            × (verdict_2 octets ≡ Accepted (length octets)) }
-        ensures { hearing self.now ≡ true
-            → (octets : List ℕ) → Heard arrival.now octets → verdict_2 octets ≡ Accepted (length octets)
+        requires whole { (profile : Profile) × (octets : List ℕ) × HeardUnder profile arrival.now octets
+            × (verdict_under profile octets ≡ Accepted (length octets)) }
+        ensures { hearing self.now ≡ true → (profile : Profile) (octets : List ℕ)
+            → HeardUnder profile arrival.now octets
+            → verdict_under profile octets ≡ Accepted (length octets)
             → WritesTo T.contents T.faults T.settled result output.old output.new
             (texts_from (field_text self.now octets number) (field_count octets) 1) };
 }
@@ -110,7 +112,12 @@ impl<P: Printer> Writer for Printing<P> {
         message: &Message<'_>,
         output: &mut T,
     ) -> Answered {
-        printed(write_fields(self, alloc, place.message, message, output))
+        let fields = PrintedFields {
+            printer: &self.0,
+            number: place.message,
+            message,
+        };
+        printed(write_fields(&fields, alloc, output))
     }
 
     fn hears(&self) -> bool {
@@ -132,23 +139,33 @@ impl<P: Printer> Writer for Printing<P> {
     }
 }
 
-impl<P: Printer> FieldPrinter for Printing<P> {
-    ghost use Rattle.std.specs.Prelude.{true};
+/// The fields of the message with this number, as they are printed.
+#[derive(Drop)]
+struct PrintedFields<'a, P> {
+    printer: &'a P,
+    number: u64,
+    message: &'a Message<'a>,
+}
 
-    ghost text = { λ printing. P.field_text printing.0 };
+impl<P: Printer> FieldTexts for PrintedFields<'_, P> {
+    ghost use Rattle.grib2_message.specs.Fields.{field_count};
 
-    ghost can_print = { λ printing message. true };
+    ghost count = { λ fields. field_count fields.message.now };
+
+    ghost text = { λ fields. P.field_text fields.printer.now fields.message.now fields.number };
+
+    fn fields(&self) -> u32 {
+        self.message.fields()
+    }
 
     fn append<T: Sink>(
         &self,
         alloc: Global,
-        number: u64,
-        message: &Message<'_>,
         field: u32,
         lines: &mut Vec<u8>,
         output: &mut T,
     ) -> Result<(), Stop> {
-        self.0
-            .append_field(alloc, number, message, field, lines, output)
+        self.printer
+            .append_field(alloc, self.number, self.message, field, lines, output)
     }
 }

@@ -4,13 +4,13 @@ ghost use Rattle.std.specs.Prelude.{◌≡◌, ◌≤◌, false};
 ghost use Rattle.std.specs.List.{list_any};
 ghost use Rattle.grib_packing.specs.Entries.{is_out_of_range};
 ghost use Rattle.grib2_message.specs.Fields.{field_count, column_of};
-ghost use Rattle.grib2_message.specs.Message.{FieldPasses};
+ghost use Rattle.grib2_message.specs.Message.{FieldReads};
 ghost use Rattle.grib1_sections.specs.Column.{column1_of};
 
 use grib_bits::{u16_at, u32_at};
 use grib_packing::numbers_of;
 use grib1_sections::Message1;
-use grib2_message::Message;
+use grib2_message::ReadableMessage;
 
 /// The numbers that give the points of a field values, as they stand.
 #[derive(Clone, Copy, Debug, PartialEq, Eq)]
@@ -25,14 +25,14 @@ pub struct Scaling {
 
 /// Those of a field of edition 2: octets 12-19 of Section 5. Fields count from 1. No scaled integer
 /// of the field is outside plus and minus 2^60.
-pub fn field_scaling(message: &Message<'_>, field: u32) -> Scaling
+pub fn field_scaling(message: &ReadableMessage<'_>, field: u32) -> Scaling
     requires first { 1 ≤ field }
     requires last { field ≤ field_count message.now }
     ensures reference { result.reference ≡ (column_of message.now field).reference }
     ensures e { result.e ≡ (column_of message.now field).e }
     ensures d { result.d ≡ (column_of message.now field).d }
     ensures small { list_any is_out_of_range (column_of message.now field).points ≡ false }
-    ensures passes { FieldPasses message.now field }
+    ensures passes { FieldReads message.now field }
 {
     let Some(section5) = message.part(field, 5) else {
         unreachable!();

@@ -6,7 +6,7 @@ ghost use Rattle.grib_text.specs.Lines.{reference_line as reference_text};
 ghost use Rattle.grib_text.specs.Stats.{stats_line as sums_text};
 
 use crate::points::append_text;
-use crate::printing::Printer;
+use crate::value_printing::ValuePrinter;
 use crate::references::ieee_reference;
 use crate::{Scaling, field_scaling, field_sums, message_scaling1, message_sums1};
 use grib_command::write_whole;
@@ -15,23 +15,19 @@ use grib_dyadic::Dyadic;
 use grib_io::{Sink, Stop};
 use grib_text::{reference_line, stats_line};
 use grib1_sections::Message1;
-use grib2_arrival::Arrival;
-use grib2_message::Message;
+use grib2_message::ReadableMessage;
 use std::alloc::{AllocError, Global};
 
 /// Prints the summary of the points of a field, and its reference line.
 #[derive(Clone, Copy, Debug)]
 pub struct Summing;
 
-impl Printer for Summing {
-    ghost use Rattle.std.specs.Prelude.{false};
+impl ValuePrinter for Summing {
     ghost use Rattle.grib_report.specs.Summing.{stats_text, stats_text_1};
 
     ghost first_text = { λ summing. stats_text_1 };
 
     ghost field_text = { λ summing. stats_text };
-
-    ghost hearing = { λ summing. false };
 
     fn write_first<T: Sink>(
         &self,
@@ -51,7 +47,7 @@ impl Printer for Summing {
         &self,
         alloc: Global,
         number: u64,
-        message: &Message<'_>,
+        message: &ReadableMessage<'_>,
         field: u32,
         lines: &mut Vec<u8>,
         output: &mut T,
@@ -61,21 +57,6 @@ impl Printer for Summing {
         let reference = ieee_reference(scaling.reference);
         let text = sums_of(alloc, number, field, &summary, &reference, scaling)?;
         append_text(lines, text.as_slice(), output)
-    }
-
-    /// No message is heard.
-    fn hears(&self) -> bool {
-        false
-    }
-
-    fn write_heard<T: Sink>(
-        &self,
-        _alloc: Global,
-        _number: u64,
-        _arrival: &Arrival,
-        _output: &mut T,
-    ) -> Result<(), Stop> {
-        Err(Stop::Memory)
     }
 }
 

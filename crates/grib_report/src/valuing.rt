@@ -1,17 +1,18 @@
 //! `dump decimals=`: as `dump`, with the values of points as decimals.
 
-ghost use Rattle.std.specs.Prelude.{◌≡◌, ◌^◌, ◌<◌, ◌≤◌, ◌++◌, true, None, length, nat_abs, IfOk};
+ghost use Rattle.std.specs.Prelude.{◌≡◌, ◌^◌, ◌<◌, ◌≤◌, ◌++◌, true, None, is_none, length, nat_abs, IfOk};
 ghost use Rattle.grib2_message.specs.Fields.{field_count};
 ghost use Rattle.grib_decimal.specs.Range.{first_too_large};
+ghost use Rattle.grib_command.specs.Answering.{AnswersByOutput};
 ghost use Rattle.grib_command.specs.Pending.{WritesTo, WritesToAllBut};
 ghost use Rattle.grib_report.specs.Valuing as values;
 
-use crate::fields::{FieldPrinter, write_fields};
+use crate::fields::{FieldTexts, write_fields};
 use crate::points::{ROOM, append_text, append_values};
 use crate::references::ieee_reference;
 use crate::{field_scaling, message_scaling1};
 use grib_base::MOST_POINTS;
-use grib_command::{Answered, Ending, Writer, printed, write_whole};
+use grib_command::{Answered, Ending, Writer, printed, unreadable, write_whole};
 use grib_decimal::DecimalScale;
 use grib_dyadic::Dyadic;
 use grib_io::{Sink, Stop};
@@ -20,7 +21,7 @@ use grib_stream::{Cause, Place};
 use grib_text::{list_line, list_line1, reference_line};
 use grib1_sections::Message1;
 use grib2_arrival::Arrival;
-use grib2_message::Message;
+use grib2_message::{Message, ReadableMessage};
 use std::alloc::{AllocError, Global};
 
 /// The command `dump` with values of this many places.
@@ -61,10 +62,9 @@ impl Writer for Valuing {
         message: &Message<'_>,
         output: &mut T,
     ) -> Answered {
-        match second_cause(alloc, message, self.places) {
-            Ok(None) => printed(write_fields(self, alloc, place.message, message, output)),
-            Ok(Some(cause)) => Answered::Kept(cause),
-            Err(_) => Answered::Memory,
+        match ReadableMessage::of(message) {
+            Ok(message) => write_second(alloc, place, &message, self.places, output),
+            Err(opaque) => unreadable(opaque),
         }
     }
 
@@ -85,38 +85,6 @@ impl Writer for Valuing {
 
     fn ending(&self) -> Ending {
         Ending::Silent
-    }
-}
-
-impl FieldPrinter for Valuing {
-    ghost use Rattle.std.specs.Prelude.{is_none};
-    ghost use Rattle.grib_report.specs.Valuing.{value_text, cause_2};
-
-    ghost text = { λ valuing. value_text valuing.places };
-
-    ghost can_print = { λ valuing message. is_none (cause_2 valuing.places message) };
-
-    fn append<T: Sink>(
-        &self,
-        alloc: Global,
-        number: u64,
-        message: &Message<'_>,
-        field: u32,
-        lines: &mut Vec<u8>,
-        output: &mut T,
-    ) -> Result<(), Stop> {
-        let column = message.column(alloc, field)?;
-        let reference = ieee_reference(column.reference);
-        let listed = list_line(alloc, message, number, field)?;
-        append_valued(
-            alloc,
-            listed.as_slice(),
-            &reference,
-            &column,
-            self.places,
-            lines,
-            output,
-        )
     }
 }
 
@@ -142,7 +110,7 @@ fn first_cause(
 /// for a text.
 fn second_cause(
     alloc: Global,
-    message: &Message<'_>,
+    message: &ReadableMessage<'_>,
     places: u32,
 ) -> Result<Option<Cause>, AllocError>
     requires { places ≤ 18 }
@@ -160,7 +128,7 @@ fn second_cause(
 /// The cause by a field, counted from 1.
 fn field_cause(
     alloc: Global,
-    message: &Message<'_>,
+    message: &ReadableMessage<'_>,
     places: u32,
     field: u32,
 ) -> Result<Option<Cause>, AllocError>
@@ -190,7 +158,7 @@ fn fits_first(message: &Message1<'_>, places: u32) -> bool
 
 /// Whether no value of a field of edition 2, counted from 1, can be too large for a text, by its reference value
 /// and its scale factors alone.
-fn fits_field(message: &Message<'_>, places: u32, field: u32) -> bool
+fn fits_field(message: &ReadableMessage<'_>, places: u32, field: u32) -> bool
     requires places { places ≤ 18 }
     requires first { 1 ≤ field }
     requires last { field ≤ field_count message.now }
@@ -211,6 +179,77 @@ fn range_cause(column: &Column, reference: &Dyadic, places: u32, field: u32) -> 
     let scale = DecimalScale::of(reference, column.e, column.d, places);
     let point = scale.first_too_large(column)?;
     Some(Cause::DecimalRange { field, point })
+}
+
+/// Writes what is printed of a message of edition 2 at this place whose values can be read, if they all have
+/// texts.
+fn write_second<T: Sink>(
+    alloc: Global,
+    place: &Place,
+    message: &ReadableMessage<'_>,
+    places: u32,
+    output: &mut T,
+) -> Answered
+    requires { places ≤ 18 }
+    ensures { AnswersByOutput T.contents T.faults T.settled result place.now.message
+        (values.second_given places place.now message.now) output.old output.new }
+{
+    match second_cause(alloc, message, places) {
+        Ok(None) => {
+            let fields = ValuedFields {
+                places,
+                number: place.message,
+                message,
+            };
+            printed(write_fields(&fields, alloc, output))
+        }
+        Ok(Some(cause)) => Answered::Kept(cause),
+        Err(_) => Answered::Memory,
+    }
+}
+
+/// The fields of the message with this number, as they are printed with values of this many places, which all
+/// have texts.
+#[derive(Drop)]
+struct ValuedFields<'a> {
+    places: u32,
+    number: u64,
+    message: &'a ReadableMessage<'a>,
+    ghost places_stand: { places ≤ 18 },
+    ghost fits: { is_none (values.cause_2 places message.now) ≡ true },
+}
+
+impl FieldTexts for ValuedFields<'_> {
+    ghost use Rattle.grib_report.specs.Valuing.{value_text};
+
+    ghost count = { λ fields. field_count fields.message.now };
+
+    ghost text = { λ fields. value_text fields.places fields.message.now fields.number };
+
+    fn fields(&self) -> u32 {
+        self.message.fields()
+    }
+
+    fn append<T: Sink>(
+        &self,
+        alloc: Global,
+        field: u32,
+        lines: &mut Vec<u8>,
+        output: &mut T,
+    ) -> Result<(), Stop> {
+        let column = self.message.column(alloc, field)?;
+        let reference = ieee_reference(column.reference);
+        let listed = list_line(alloc, self.message.message(), self.number, field)?;
+        append_valued(
+            alloc,
+            listed.as_slice(),
+            &reference,
+            &column,
+            self.places,
+            lines,
+            output,
+        )
+    }
 }
 
 /// Writes what is printed of the message of edition 1 with this number, whose values all have texts.

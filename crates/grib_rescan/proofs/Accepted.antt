@@ -5,7 +5,10 @@ use Rattle.std.proofs.Math.Nat.{mul-le-mul, mul_comm, one-le-mul}
 use Rattle.grib_bits.specs.Octets.{octets, octet_list, num_on}
 use Rattle.grib_base.specs.Rows.{first_fault}
 use Rattle.grib_base.specs.declared.limits.TheConstants.{MOST_POINTS}
+use Rattle.grib_base.specs.declared.profile.Profile.{Profile}
 use Rattle.grib2_grids.specs.Grid.{grid_rows}
+use Rattle.grib2_grids.specs.Opaque.{grid_rows_under}
+use Rattle.grib2_grids.proofs.Under.{grid_accepted}
 use Rattle.grib_rescan.specs.declared.points.Area.{Area}
 use Rattle.grib_rescan.specs.Scanning.{scanning_of}
 use Rattle.grib_rescan.specs.Points.{IsBox, width, height}
@@ -20,6 +23,9 @@ accepted s is =
     let few : ltb MOST_POINTS (octets s 7 10) ≡ false = le-ltb MOST_POINTS (octets s 7 10) is.few in
     let product : eqb (octets s 31 34 * octets s 35 38) (octets s 7 10) ≡ true = eq-eqb _ _ is.product in
     rw (is.source, is.template, is.list, long, whole, some, few, product) refl
+
+pub accepted_under : (profile : Profile) (s : List ℕ) → IsLatLon s → first_fault (grid_rows_under profile s) ≡ None
+accepted_under profile s is = grid_accepted profile s (accepted s is)
 
 number : (s t : List ℕ) (first last : ℕ) → octet_list s first last ≡ octet_list t first last → octets s first last ≡ octets t first last
 number s t first last same = ap (num_on 0) same

@@ -1,11 +1,14 @@
 -- What is known of a grid that no row refuses and of which no cause holds.
-use Rattle.std.proofs.Common.{◌≡◌, ℕ, zero, suc, ◌*◌, ◌<◌, ◌≤◌, Bool, true, false, not, cond, ◌&&◌, ◌||◌, Option, Some, None, List, length, leb, eqb, refl, subst, arith}
+use Rattle.std.proofs.Common.{◌≡◌, ℕ, zero, suc, ◌*◌, ◌<◌, ◌≤◌, Bool, true, false, not, cond, ◌&&◌, ◌||◌, Option, Some, None, List, length, leb, eqb, refl, sym, ap, ◌∙◌, subst, arith}
 use Rattle.std.proofs.lemmas.Bool.{eqb-true, ltb-false, leb-false}
 use Rattle.grib_bits.specs.Octets.{octets}
 use Rattle.grib_base.specs.Rows.{first_fault}
 use Rattle.grib_base.proofs.Passing.{passes_from_none, second_fails}
 use Rattle.grib2_sections.specs.Template.{least_length}
+use Rattle.grib_base.specs.declared.profile.Profile.{Profile}
 use Rattle.grib2_grids.specs.Grid.{grid_rows, grid_templates}
+use Rattle.grib2_grids.specs.Opaque.{is_opaque_grid, grid_rows_under}
+use Rattle.grib2_grids.proofs.Under.{same_grid_rows, grid_header_length}
 use Rattle.grib_rescan.specs.declared.points.Area.{Area}
 use Rattle.grib_rescan.specs.declared.cause.GridCause.{GridCause}
 use Rattle.grib_rescan.specs.Sections.{HasPoints, HasTemplate, IsLatLon}
@@ -42,14 +45,19 @@ factors a (suc b) n e some = omega arith
 below : (a b : ℕ) → leb a b ≡ false → b < a
 below a b e = leb-false a b e
 
-pub lat_lon : (s : List ℕ) → first_fault (grid_rows s) ≡ None → octets s 13 14 ≡ 0 → octets s 11 11 ≡ 0 → IsLatLon s
-lat_lon s none template list =
-    let p = passes_from_none (grid_rows s) none in
+-- a grid of template 3.0 has the same rows under each profile
+stated_rows : (profile : Profile) (s : List ℕ) → first_fault (grid_rows_under profile s) ≡ None → octets s 6 6 ≡ 0 → octets s 13 14 ≡ 0 → first_fault (grid_rows s) ≡ None
+stated_rows profile s none source template =
+    let stated : is_opaque_grid s ≡ false = rw (source, template) refl in ap first_fault (sym (same_grid_rows profile s stated)) ∙ none
+
+lat_lon : (profile : Profile) (s : List ℕ) → first_fault (grid_rows_under profile s) ≡ None → octets s 6 6 ≡ 0 → octets s 13 14 ≡ 0 → octets s 11 11 ≡ 0 → IsLatLon s
+lat_lon profile s none source template list =
+    let p = passes_from_none (grid_rows s) (stated_rows profile s none source template) in
     let least : least_length grid_templates (octets s 13 14) ≤ length s = ltb-false _ _ p.1.1.1.0 in
     let unlisted : not (not (eqb (octets s 11 11) 0)) ≡ true = rw list refl in
     record {
       long = subst (λ (t : ℕ). least_length grid_templates t ≤ length s) template least;
-      source = eqb-true _ _ (not_false _ p.1.0);
+      source = source;
       template = template;
       list = list;
       some = nonzero _ (first_false _ _ p.1.1.1.1.0);
@@ -65,10 +73,10 @@ has_points s is = record {
   few = omega (arith, is.product, is.few);
 }
 
-pub has_template : (s : List ℕ) → first_fault (grid_rows s) ≡ None → HasTemplate s
-has_template s none = record {
-  least = ltb-false _ _ (passes_from_none (grid_rows s) none).0;
-  points = λ template list. has_points s (lat_lon s none template list);
+pub has_template : (profile : Profile) (s : List ℕ) → first_fault (grid_rows_under profile s) ≡ None → HasTemplate s
+has_template profile s none = record {
+  least = grid_header_length profile s none;
+  points = λ source template list. has_points s (lat_lon profile s none source template list);
 }
 
 -- ---- causes
@@ -77,22 +85,23 @@ none_of : (b : Bool) (cause : GridCause) (later : Option GridCause) → cond b (
 none_of true cause later e = cc
 none_of false cause later e = (refl, e)
 
-lat_lon_by : (s : List ℕ) → first_fault (grid_rows s) ≡ None → not (is_lat_lon s) ≡ false → IsLatLon s
-lat_lon_by s none is =
+lat_lon_by : (profile : Profile) (s : List ℕ) → first_fault (grid_rows_under profile s) ≡ None → not (is_lat_lon s) ≡ false → IsLatLon s
+lat_lon_by profile s none is =
     let both = both_true _ _ (not_false _ is) in
-    lat_lon s none (eqb-true _ _ both.0) (eqb-true _ _ both.1)
+    let defined = both_true _ _ both.0 in
+    lat_lon profile s none (eqb-true _ _ defined.0) (eqb-true _ _ defined.1) (eqb-true _ _ both.1)
 
-pub can_be_rescanned : (s : List ℕ) → first_fault (grid_rows s) ≡ None → rescan_cause_of s ≡ None → IsLatLon s
-can_be_rescanned s none uncaused = lat_lon_by s none (none_of _ _ _ uncaused).0
+pub can_be_rescanned : (profile : Profile) (s : List ℕ) → first_fault (grid_rows_under profile s) ≡ None → rescan_cause_of s ≡ None → IsLatLon s
+can_be_rescanned profile s none uncaused = lat_lon_by profile s none (none_of _ _ _ uncaused).0
 
-pub can_be_cut : (area : Area) (s : List ℕ) → first_fault (grid_rows s) ≡ None → crop_cause_of area s ≡ None → CanBeCut area s
-can_be_cut area s none uncaused =
+pub can_be_cut : (profile : Profile) (area : Area) (s : List ℕ) → first_fault (grid_rows_under profile s) ≡ None → crop_cause_of area s ≡ None → CanBeCut area s
+can_be_cut profile area s none uncaused =
     let kind = none_of _ _ _ uncaused in
     let order = none_of _ _ _ kind.1 in
     let outside = none_of _ _ _ order.1 in
     let steps = none_of _ _ _ outside.1 in
     record {
-      lat_lon = lat_lon_by s none kind.0;
+      lat_lon = lat_lon_by profile s none kind.0;
       order = eqb-true _ _ (not_false _ order.0);
       last_column = below _ _ (first_false _ _ outside.0);
       last_row = below _ _ (last_false _ _ outside.0);

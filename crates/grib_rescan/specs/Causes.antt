@@ -17,9 +17,9 @@ abbrev pub first_cause : List Row → Option GridCause
 first_cause [] = None
 first_cause (r ∷ rs) = cond r.holds (Some r.cause) (first_cause rs)
 
--- template 3.0, with no list of rows
+-- defined by octets 13-14 (code table 3.0), by template 3.0, with no list of rows
 abbrev pub is_lat_lon : List ℕ → Bool
-is_lat_lon s = octets s 13 14 == 0 && (octets s 11 11 == 0)
+is_lat_lon s = octets s 6 6 == 0 && (octets s 13 14 == 0) && (octets s 11 11 == 0)
 
 -- bits 5 to 8 of the scanning octet are reserved, or say that rows are offset
 abbrev pub rescan_cause_of : List ℕ → Option GridCause

@@ -16,10 +16,10 @@ pub record HasPoints (s : List ℕ) : Type 0 where
   pub rows : 1 ≤ octets s 35 38
   pub few : octets s 31 34 * octets s 35 38 ≤ MOST_POINTS
 
--- a Section 3 which, where it is one of template 3.0 without a list of rows, has its points
+-- a Section 3 which, where template 3.0 defines its grid without a list of rows, has its points
 pub record HasTemplate (s : List ℕ) : Type 0 where
   pub least : 14 ≤ length s
-  pub points : octets s 13 14 ≡ 0 → octets s 11 11 ≡ 0 → HasPoints s
+  pub points : octets s 6 6 ≡ 0 → octets s 13 14 ≡ 0 → octets s 11 11 ≡ 0 → HasPoints s
 
 -- a Section 3 of template 3.0 without a list of rows, which no row of the profile refuses
 pub record IsLatLon (s : List ℕ) : Type 0 where

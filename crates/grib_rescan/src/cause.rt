@@ -11,7 +11,7 @@ use grib_bits::{u8_at, u16_at, u32_at};
 /// Why the points of a grid are not put in another order, or no subarea is cut out.
 #[derive(Clone, Copy, Debug, PartialEq, Eq)]
 pub enum GridCause {
-    /// The grid is not one of template 3.0 without a list of rows.
+    /// The grid is not one that template 3.0 defines, without a list of rows.
     GridKind,
     /// The scanning mode is not one that can be read.
     ScanMode,
@@ -27,7 +27,7 @@ pub fn rescan_cause(section: &[u8]) -> Option<GridCause>
     requires { HasTemplate section.now }
     ensures { result ≡ rescan_cause_of section.now }
 {
-    if u16_at(section, 13) != 0 || u8_at(section, 11) != 0 {
+    if u8_at(section, 6) != 0 || u16_at(section, 13) != 0 || u8_at(section, 11) != 0 {
         return Some(GridCause::GridKind);
     }
     if u8_at(section, 72) % 16 != 0 {
@@ -42,7 +42,7 @@ pub fn crop_cause(section: &[u8], area: &Area) -> Option<GridCause>
     requires { HasTemplate section.now }
     ensures { result ≡ crop_cause_of area.now section.now }
 {
-    if u16_at(section, 13) != 0 || u8_at(section, 11) != 0 {
+    if u8_at(section, 6) != 0 || u16_at(section, 13) != 0 || u8_at(section, 11) != 0 {
         return Some(GridCause::GridKind);
     }
     if u8_at(section, 72) != 0 {

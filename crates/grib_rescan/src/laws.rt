@@ -9,7 +9,8 @@ ghost use Rattle.grib_packing.specs.declared.column.Point.TheVariants.{Scaled};
 ghost use Rattle.grib_rescan.specs.declared.cause.GridCause.TheVariants.{ScanMode, OutsideBox, Increments};
 ghost use Rattle.grib_bits.specs.Octets.{octets, signed_octets, octet_list};
 ghost use Rattle.grib_base.specs.Rows.{first_fault};
-ghost use Rattle.grib2_grids.specs.Grid.{grid_rows};
+ghost use Rattle.grib_base.specs.declared.profile.Profile.{Profile};
+ghost use Rattle.grib2_grids.specs.Opaque.{grid_rows_under};
 ghost use Rattle.grib_rescan.specs.Sections.{rescanned_section, cropped_section, latitude_at, longitude_at, AreApart, IsLatLon, HasPoints, HasTemplate};
 ghost use Rattle.grib_rescan.specs.Causes.{rescan_cause_of, crop_cause_of, CanBeCut};
 ghost use Rattle.grib_rescan.specs.Worked.{north, south, west, east, grid, points_of, area_of};
@@ -83,20 +84,22 @@ pub fn what_a_cropped_grid_says()
         → AreApart first last 56 63 → octet_list (cropped_section area s) first last ≡ octet_list s first last }
 {}
 
-/// No row refuses the new Section 3, where none refuses that of the grid.
+/// No row of a profile refuses the new Section 3, where none refuses that of the grid.
 pub fn a_new_grid_is_accepted()
-    ensures accepted { (s : List ℕ) → IsLatLon s → first_fault (grid_rows s) ≡ None }
+    ensures accepted { (profile : Profile) (s : List ℕ) → IsLatLon s → first_fault (grid_rows_under profile s) ≡ None }
     ensures rescanned { (s : List ℕ) → IsLatLon s → IsLatLon (rescanned_section s) }
     ensures cropped { (area : Rectangle) (s : List ℕ) → IsLatLon s → IsBox area (octets s 31 34) (octets s 35 38)
         → IsLatLon (cropped_section area s) }
 {}
 
-/// What is known where no row refuses a Section 3 and no cause holds: the conditions of what makes the new one.
+/// What is known where no row of a profile refuses a Section 3 and no cause holds: the conditions of what makes the
+/// new one.
 pub fn what_has_no_cause()
-    ensures template { (s : List ℕ) → first_fault (grid_rows s) ≡ None → HasTemplate s }
+    ensures template { (profile : Profile) (s : List ℕ) → first_fault (grid_rows_under profile s) ≡ None → HasTemplate s }
     ensures points { (s : List ℕ) → IsLatLon s → HasPoints s }
-    ensures rescanned { (s : List ℕ) → first_fault (grid_rows s) ≡ None → rescan_cause_of s ≡ None → IsLatLon s }
-    ensures cropped { (area : Rectangle) (s : List ℕ) → first_fault (grid_rows s) ≡ None
+    ensures rescanned { (profile : Profile) (s : List ℕ) → first_fault (grid_rows_under profile s) ≡ None
+        → rescan_cause_of s ≡ None → IsLatLon s }
+    ensures cropped { (profile : Profile) (area : Rectangle) (s : List ℕ) → first_fault (grid_rows_under profile s) ≡ None
         → crop_cause_of area s ≡ None → CanBeCut area s }
 {}
 

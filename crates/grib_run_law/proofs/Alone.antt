@@ -4,7 +4,10 @@ use Rattle.std.proofs.Common.{◌≡◌, ◌⊎◌, inl, inr, ℕ, Bool, true, f
 use Rattle.grib_base.specs.Rows.{choose}
 use Rattle.grib2_sections.specs.Head.{edition}
 use Rattle.grib_reasons.specs.declared.cause.Cause.{Cause}
-use Rattle.grib_reasons.specs.declared.cause.Cause.TheVariants.{EditionOne, Lost}
+use Rattle.grib_reasons.specs.declared.cause.Cause.TheVariants.{EditionOne, Lost, Packing}
+use Rattle.grib_packing.specs.Packing.{packing_template}
+use Rattle.grib2_message.specs.Fields.{part_octets}
+use Rattle.grib2_message.specs.Message.{first_opaque}
 use Rattle.grib_keys.specs.declared.wanted.Wanted.{Wanted}
 use Rattle.grib_params.specs.Surfaces.{SurfaceEntries}
 use Rattle.grib_params.specs.Table.{Entries}
@@ -16,7 +19,7 @@ use Rattle.grib_stream.specs.declared.place.Place.{Place}
 use Rattle.grib_stream.specs.Acts.{Act, writes}
 use Rattle.grib_stream.specs.Cutting.{StandsAlone, renumbered}
 use Rattle.grib_stream.specs.Task.{Given, Gives, Ends}
-use Rattle.grib_command.specs.Command.{Command, given, given_unless, given_whole, kept_at, changing_unless, task}
+use Rattle.grib_command.specs.Command.{Command, given, given_unless, given_readable, given_whole, kept_at, changing_unless, reading_values, task}
 use Rattle.grib_params.specs.declared.matching.TableMatch.{TableMatch}
 use Rattle.grib_edit.specs.Demoting.{demoted_cause, demoted_fields, demote_command}
 use Rattle.grib_edit.specs.Filtering.{filtered, filter_command}
@@ -38,6 +41,11 @@ unless_fixed : (cause : Option Cause) (octets : List ℕ) → IsFixed (λ place.
 unless_fixed None octets = gives_fixed (writes octets) (length octets)
 unless_fixed (Some cause) octets = kept_fixed cause
 
+-- what reads values, where this field is the first of an opaque packing
+readable_fixed : (opaque : Option ℕ) (message : List ℕ) (next : Place → Given) → IsFixed next → IsFixed (λ place. given_readable opaque message place (λ _. next place))
+readable_fixed None message next fixed = fixed
+readable_fixed (Some field) message next fixed = kept_fixed (Packing (packing_template (part_octets message field 5)) field)
+
 either_fixed : (b : Bool) (first second : Place → Given) → IsFixed first → IsFixed second → IsFixed (λ place. choose b (λ _. first place) (λ _. second place))
 either_fixed true first second one two = one
 either_fixed false first second one two = two
@@ -53,6 +61,12 @@ by_edition command first second message =
 
 pub changing_fixed : (cause : List ℕ → Option Cause) (octets : List ℕ → List ℕ) → Fixed (changing_unless cause octets)
 changing_fixed cause octets = by_edition (changing_unless cause octets) (λ message. kept_fixed EditionOne) (λ message. unless_fixed (cause message) (octets message))
+
+pub values_fixed : (cause : List ℕ → Option Cause) (octets : List ℕ → List ℕ) → Fixed (reading_values (changing_unless cause octets))
+values_fixed cause octets =
+    by_edition (reading_values (changing_unless cause octets)) (λ message. kept_fixed EditionOne)
+    (λ message.
+    readable_fixed (first_opaque message) message (λ place. given_unless (cause message) place.message (octets message)) (unless_fixed (cause message) (octets message)))
 
 whole_fixed : (octets : List ℕ) → IsFixed (λ place. given_whole octets)
 whole_fixed octets = gives_fixed (writes octets) (length octets)
@@ -70,7 +84,10 @@ migrate_fixed local table surfaces =
 
 pub demote_fixed : (matching : TableMatch) (keep any : Bool) (table : Entries) → Fixed (demote_command matching keep any table)
 demote_fixed matching keep any table =
-    by_edition (demote_command matching keep any table) whole_fixed (λ message. unless_fixed (demoted_cause table matching keep any message) (demoted_fields table matching keep message))
+    by_edition (demote_command matching keep any table) whole_fixed
+    (λ message.
+    readable_fixed (first_opaque message) message (λ place. given_unless (demoted_cause table matching keep any message) place.message (demoted_fields table matching keep message))
+    (unless_fixed (demoted_cause table matching keep any message) (demoted_fields table matching keep message)))
 
 -- ---- so each message is answered by itself
 

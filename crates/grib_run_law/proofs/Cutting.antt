@@ -1,25 +1,27 @@
 -- What is written of an input that is cut at the end of one of its messages.
 use Rattle.std.proofs.Common.{◌≡◌, ℕ, ◌^◌, ◌≤◌, Bool, true, Option, None, List, ◌++◌, length, sym, ap, ◌∙◌, arith, length-append}
 use Rattle.std.proofs.lemmas.Bool.{false≢true}
+use Rattle.grib_base.specs.declared.profile.Profile.{Profile}
 use Rattle.grib_reasons.specs.declared.cause.Cause.{Cause}
 use Rattle.grib_table.specs.Both.{Both, BothGood, ParametersRefused, SurfacesRefused, Texts, both}
 use Rattle.grib_reorder.specs.declared.edit.GridEdit.TheVariants as edits
 use Rattle.grib_stream.specs.declared.outcome.Outcome.TheVariants.{Done}
 use Rattle.grib_stream.specs.Acts.{written}
 use Rattle.grib_stream.specs.Answer.{Answer, answer_of, answer_within}
-use Rattle.grib_stream.specs.Cutting.{EndsAtMessage, StandsAlone, later_by, message_count}
-use Rattle.grib_stream.specs.Task.{Task, IsLawful}
+use Rattle.grib_stream.specs.Cutting.{EndsAtMessage, later_by, message_count}
+use Rattle.grib_stream.specs.Task.{Task}
 use Rattle.grib_stream.proofs.Exits.{within_short}
 use Rattle.grib_stream.proofs.Parts.{AsParts, parts_done}
-use Rattle.grib_run_law.proofs.Alone.{changing_fixed, filter_fixed, migrate_fixed, demote_fixed, stands_alone}
+use Rattle.grib_run_law.proofs.Alone.{Fixed, changing_fixed, values_fixed, filter_fixed, migrate_fixed, demote_fixed, stands_alone}
 use Rattle.grib_run_law.proofs.Each.{written_join}
 use Rattle.grib_command.specs.declared.job.Job.{Job}
 use Rattle.grib_command.specs.declared.job.Job.TheVariants.{Check, List as Listing, Keys, Stats, Dump, Values, Filter, Split, Set, Repack, RepackLeast, Rescan, Crop, Migrate, Demote, Make, Print}
-use Rattle.grib_command.specs.Command.{Command, IsLawfulCommand, changing_unless, task}
+use Rattle.grib_command.specs.Command.{Command, IsLawfulCommand, changing_unless, reading_values, task, under}
+use Rattle.grib_command.specs.LawfulCommands.{under_lawful}
 use Rattle.grib_run_law.specs.Each.{writes_each}
 use Rattle.grib_edit.specs.Filtering.{filter_command, filter_lawful}
 use Rattle.grib_command.specs.Jobs.{IsJob}
-use Rattle.grib_command.specs.Judging.{judge}
+use Rattle.grib_command.specs.Judging.{judge_under}
 use Rattle.grib_dispatch.specs.Lawful.{lawful}
 use Rattle.grib_migrate.specs.declared.labels.Local.{Local}
 use Rattle.grib_edit.specs.Migrating.{migrate_lawful}
@@ -30,7 +32,7 @@ use Rattle.grib_edit.specs.Least.{least_lawful}
 use Rattle.grib_edit.specs.Repacking.{repack_lawful}
 use Rattle.grib_edit.specs.Rescanning.{edit_lawful}
 use Rattle.grib_edit.specs.Setting.{set_lawful}
-use Rattle.grib_run_spec.specs.Tasks.{answer_by, answer_with, demoting, migrating}
+use Rattle.grib_run_spec.specs.Tasks.{answer_by, answer_under, demoting, migrating}
 
 -- ---- what is written of the parts
 
@@ -39,13 +41,15 @@ pub record WrittenAsParts (whole first second : Answer) (count : ℕ) : Type 0 w
   pub octets : written whole.acts ≡ written first.acts ++ written second.acts
   pub outcome : whole.outcome ≡ later_by count second.outcome
 
-module _ (limit : ℕ) (front rest : List ℕ) (fits : length (front ++ rest) ≤ limit) (ends : EndsAtMessage judge front) where
+module _ (profile : Profile) (limit : ℕ) (front rest : List ℕ) (fits : length (front ++ rest) ≤ limit) (ends : EndsAtMessage (judge_under profile) front) where
   abbrev AsWritten : (List ℕ → Answer) → Type 0
-  AsWritten answer = (answer front).outcome ≡ Done → WrittenAsParts (answer (front ++ rest)) (answer front) (answer rest) (message_count judge front)
+  AsWritten answer = (answer front).outcome ≡ Done → WrittenAsParts (answer (front ++ rest)) (answer front) (answer rest) (message_count (judge_under profile) front)
 
-  written_parts : (command : Command) → IsLawful (task command) → StandsAlone (task command) → AsWritten (answer_within limit (task command))
-  written_parts command law alone done =
-      let t : Task = task command in
+  written_parts : (command : Command) → IsLawfulCommand command → Fixed command → AsWritten (answer_within limit (task (under profile command)))
+  written_parts command is_lawful fixed done =
+      let t : Task = task (under profile command) in
+      let law = lawful (under profile command) (under_lawful profile command is_lawful) in
+      let alone = stands_alone (under profile command) fixed in
       let first_fits : length front ≤ limit = omega (arith, fits, length-append front rest) in
       let rest_fits : length rest ≤ limit = omega (arith, fits, length-append front rest) in
       let whole : answer_within limit t (front ++ rest) ≡ answer_of t (front ++ rest) = within_short t limit (front ++ rest) fits in
@@ -57,53 +61,57 @@ module _ (limit : ℕ) (front rest : List ℕ) (fits : length (front ++ rest) �
             ∙ (ap written parts.acts
             ∙ (written_join (answer_of t front).acts (answer_of t rest).acts
             ∙ (sym (ap (λ x. written x.acts ++ written (answer_of t rest).acts) first) ∙ sym (ap (λ x. written (answer_within limit t front).acts ++ written x.acts) second))));
-        outcome = ap (λ x. x.outcome) whole ∙ (parts.outcome ∙ sym (ap (λ x. later_by (message_count judge front) x.outcome) second));
+        outcome = ap (λ x. x.outcome) whole ∙ (parts.outcome ∙ sym (ap (λ x. later_by (message_count (judge_under profile) front) x.outcome) second));
       }
 
   unless_parts : (cause : List ℕ → Option Cause) (octets : List ℕ → List ℕ) → IsLawfulCommand (changing_unless cause octets)
-      → AsWritten (answer_within limit (task (changing_unless cause octets)))
-  unless_parts cause octets law = written_parts (changing_unless cause octets) (lawful (changing_unless cause octets) law) (stands_alone (changing_unless cause octets) (changing_fixed cause octets))
+      → AsWritten (answer_within limit (task (under profile (changing_unless cause octets))))
+  unless_parts cause octets law = written_parts (changing_unless cause octets) law (changing_fixed cause octets)
+
+  values_parts : (cause : List ℕ → Option Cause) (octets : List ℕ → List ℕ) → IsLawfulCommand (reading_values (changing_unless cause octets))
+      → AsWritten (answer_within limit (task (under profile (reading_values (changing_unless cause octets)))))
+  values_parts cause octets law = written_parts (reading_values (changing_unless cause octets)) law (values_fixed cause octets)
 
 -- tables that are refused end the run before its input
-migrate_parts : (local : Local) (t : Both) (front rest : List ℕ) → length (front ++ rest) ≤ 2 ^ 40 → EndsAtMessage judge front
-    → (answer_by t (migrating local) front).outcome ≡ Done
-    → WrittenAsParts (answer_by t (migrating local) (front ++ rest)) (answer_by t (migrating local) front) (answer_by t (migrating local) rest)
-    (message_count judge front)
-migrate_parts local (BothGood tables) front rest fits ends done =
+migrate_parts : (profile : Profile) (local : Local) (t : Both) (front rest : List ℕ) → length (front ++ rest) ≤ 2 ^ 40 → EndsAtMessage (judge_under profile) front
+    → (answer_by t (λ tables. under profile (migrating local tables)) front).outcome ≡ Done
+    → WrittenAsParts (answer_by t (λ tables. under profile (migrating local tables)) (front ++ rest)) (answer_by t (λ tables. under profile (migrating local tables)) front) (answer_by t (λ tables. under profile (migrating local tables)) rest)
+    (message_count (judge_under profile) front)
+migrate_parts profile local (BothGood tables) front rest fits ends done =
     let command = migrating local tables in
-    written_parts (2 ^ 40) front rest fits ends command (lawful command (migrate_lawful local tables.parameters tables.surfaces)) (stands_alone command (migrate_fixed local tables.parameters tables.surfaces)) done
-migrate_parts local (ParametersRefused refusal) front rest fits ends done = let no : ⊥ = cc in absurd no
-migrate_parts local (SurfacesRefused refusal) front rest fits ends done = let no : ⊥ = cc in absurd no
+    written_parts profile (2 ^ 40) front rest fits ends command (migrate_lawful local tables.parameters tables.surfaces) (migrate_fixed local tables.parameters tables.surfaces) done
+migrate_parts profile local (ParametersRefused refusal) front rest fits ends done = let no : ⊥ = cc in absurd no
+migrate_parts profile local (SurfacesRefused refusal) front rest fits ends done = let no : ⊥ = cc in absurd no
 
-demote_parts : (matching : TableMatch) (keep any : Bool) (t : Both) (front rest : List ℕ) → length (front ++ rest) ≤ 2 ^ 40 → EndsAtMessage judge front
-    → (answer_by t (demoting matching keep any) front).outcome ≡ Done
-    → WrittenAsParts (answer_by t (demoting matching keep any) (front ++ rest)) (answer_by t (demoting matching keep any) front) (answer_by t (demoting matching keep any) rest)
-    (message_count judge front)
-demote_parts matching keep any (BothGood tables) front rest fits ends done =
+demote_parts : (profile : Profile) (matching : TableMatch) (keep any : Bool) (t : Both) (front rest : List ℕ) → length (front ++ rest) ≤ 2 ^ 40 → EndsAtMessage (judge_under profile) front
+    → (answer_by t (λ tables. under profile (demoting matching keep any tables)) front).outcome ≡ Done
+    → WrittenAsParts (answer_by t (λ tables. under profile (demoting matching keep any tables)) (front ++ rest)) (answer_by t (λ tables. under profile (demoting matching keep any tables)) front) (answer_by t (λ tables. under profile (demoting matching keep any tables)) rest)
+    (message_count (judge_under profile) front)
+demote_parts profile matching keep any (BothGood tables) front rest fits ends done =
     let command = demoting matching keep any tables in
-    written_parts (2 ^ 40) front rest fits ends command (lawful command (demote_lawful matching keep any tables.parameters)) (stands_alone command (demote_fixed matching keep any tables.parameters)) done
-demote_parts matching keep any (ParametersRefused refusal) front rest fits ends done = let no : ⊥ = cc in absurd no
-demote_parts matching keep any (SurfacesRefused refusal) front rest fits ends done = let no : ⊥ = cc in absurd no
+    written_parts profile (2 ^ 40) front rest fits ends command (demote_lawful matching keep any tables.parameters) (demote_fixed matching keep any tables.parameters) done
+demote_parts profile matching keep any (ParametersRefused refusal) front rest fits ends done = let no : ⊥ = cc in absurd no
+demote_parts profile matching keep any (SurfacesRefused refusal) front rest fits ends done = let no : ⊥ = cc in absurd no
 
-pub job_parts : (job : Job) (texts : Texts) (front rest : List ℕ) → IsJob job → writes_each job ≡ true → length (front ++ rest) ≤ 2 ^ 40 → EndsAtMessage judge front
-    → (answer_with job texts front).outcome ≡ Done
-    → WrittenAsParts (answer_with job texts (front ++ rest)) (answer_with job texts front) (answer_with job texts rest) (message_count judge front)
-job_parts (Filter conditions) texts front rest is each fits ends done =
-    written_parts (2 ^ 40) front rest fits ends (filter_command conditions) (lawful (filter_command conditions) (filter_lawful conditions)) (stands_alone (filter_command conditions) (filter_fixed conditions)) done
-job_parts (Set changes) texts front rest is each fits ends done =
-    unless_parts (2 ^ 40) front rest fits ends _ _ (set_lawful changes is.changes_stand) done
-job_parts (Repack target) texts front rest is each fits ends done = unless_parts (2 ^ 40) front rest fits ends _ _ (repack_lawful target) done
-job_parts RepackLeast texts front rest is each fits ends done = unless_parts (2 ^ 40) front rest fits ends (λ message. None) least least_lawful done
-job_parts Rescan texts front rest is each fits ends done = unless_parts (2 ^ 40) front rest fits ends _ _ (edit_lawful edits.Rescan) done
-job_parts (Crop area) texts front rest is each fits ends done = unless_parts (2 ^ 40) front rest fits ends _ _ (edit_lawful (edits.Crop area)) done
-job_parts (Migrate params surfaces local) texts front rest is each fits ends done = migrate_parts local (both surfaces texts) front rest fits ends done
-job_parts (Demote params keep_local any_earth matching) texts front rest is each fits ends done = demote_parts matching keep_local any_earth (both None texts) front rest fits ends done
-job_parts Check texts front rest is each fits ends done = absurd (false≢true each)
-job_parts Listing texts front rest is each fits ends done = absurd (false≢true each)
-job_parts Keys texts front rest is each fits ends done = absurd (false≢true each)
-job_parts Stats texts front rest is each fits ends done = absurd (false≢true each)
-job_parts (Dump decimals) texts front rest is each fits ends done = absurd (false≢true each)
-job_parts (Values format) texts front rest is each fits ends done = absurd (false≢true each)
-job_parts (Split name) texts front rest is each fits ends done = absurd (false≢true each)
-job_parts (Make seed ni nj target) texts front rest is each fits ends done = absurd (false≢true each)
-job_parts (Print page) texts front rest is each fits ends done = absurd (false≢true each)
+pub job_parts : (profile : Profile) (job : Job) (texts : Texts) (front rest : List ℕ) → IsJob job → writes_each job ≡ true → length (front ++ rest) ≤ 2 ^ 40 → EndsAtMessage (judge_under profile) front
+    → (answer_under profile job texts front).outcome ≡ Done
+    → WrittenAsParts (answer_under profile job texts (front ++ rest)) (answer_under profile job texts front) (answer_under profile job texts rest) (message_count (judge_under profile) front)
+job_parts profile (Filter conditions) texts front rest is each fits ends done =
+    written_parts profile (2 ^ 40) front rest fits ends (filter_command conditions) (filter_lawful conditions) (filter_fixed conditions) done
+job_parts profile (Set changes) texts front rest is each fits ends done =
+    unless_parts profile (2 ^ 40) front rest fits ends _ _ (set_lawful changes is.changes_stand) done
+job_parts profile (Repack target) texts front rest is each fits ends done = values_parts profile (2 ^ 40) front rest fits ends _ _ (repack_lawful target) done
+job_parts profile RepackLeast texts front rest is each fits ends done = values_parts profile (2 ^ 40) front rest fits ends (λ message. None) least least_lawful done
+job_parts profile Rescan texts front rest is each fits ends done = values_parts profile (2 ^ 40) front rest fits ends _ _ (edit_lawful edits.Rescan) done
+job_parts profile (Crop area) texts front rest is each fits ends done = values_parts profile (2 ^ 40) front rest fits ends _ _ (edit_lawful (edits.Crop area)) done
+job_parts profile (Migrate params surfaces local) texts front rest is each fits ends done = migrate_parts profile local (both surfaces texts) front rest fits ends done
+job_parts profile (Demote params keep_local any_earth matching) texts front rest is each fits ends done = demote_parts profile matching keep_local any_earth (both None texts) front rest fits ends done
+job_parts profile Check texts front rest is each fits ends done = absurd (false≢true each)
+job_parts profile Listing texts front rest is each fits ends done = absurd (false≢true each)
+job_parts profile Keys texts front rest is each fits ends done = absurd (false≢true each)
+job_parts profile Stats texts front rest is each fits ends done = absurd (false≢true each)
+job_parts profile (Dump decimals) texts front rest is each fits ends done = absurd (false≢true each)
+job_parts profile (Values format) texts front rest is each fits ends done = absurd (false≢true each)
+job_parts profile (Split name) texts front rest is each fits ends done = absurd (false≢true each)
+job_parts profile (Make seed ni nj target) texts front rest is each fits ends done = absurd (false≢true each)
+job_parts profile (Print page) texts front rest is each fits ends done = absurd (false≢true each)

@@ -4,6 +4,8 @@ use Rattle.std.specs.List.{range_with_len}
 use Rattle.std.proofs.lemmas.Bool.{cases_Bool, false≢true, eq-eqb}
 use Rattle.std.proofs.lemmas.List.Elements.{All-head, All-tail}
 use Rattle.grib_base.specs.Rows.{choose}
+use Rattle.grib_base.specs.declared.profile.Profile.{Profile}
+use Rattle.grib_base.specs.declared.profile.Profile.TheVariants.{Stated, Open}
 use Rattle.grib_reasons.specs.declared.cause.Cause.{Cause}
 use Rattle.grib_reasons.specs.declared.cause.Cause.TheVariants.{Lost}
 use Rattle.grib_keys.specs.declared.condition.Change.{Change}
@@ -14,7 +16,9 @@ use Rattle.grib_select.specs.declared.changing.SetFault.TheVariants.{KeyRange, K
 use Rattle.grib_select.specs.Changed.{new_number, with_keys, first_without, change_fault, or_later, set_fault}
 use Rattle.grib_select.specs.Values.{key_value_of}
 use Rattle.grib2_sections.specs.Head.{edition}
-use Rattle.grib2_message.specs.Message.{IsMessage}
+use Rattle.grib2_message.specs.Message.{IsMessage, IsMessageUnder, first_opaque}
+use Rattle.grib2_message.proofs.FirstOpaque.{none_opaque}
+use Rattle.grib2_message.proofs.Opened.{any_message}
 use Rattle.grib2_message.specs.Fields.{field_count}
 use Rattle.grib_packing.specs.Written.{IsTarget}
 use Rattle.grib_params.specs.Surfaces.{SurfaceEntries}
@@ -30,8 +34,8 @@ use Rattle.grib_repack.specs.Repacked.{MayBeRepacked, repacked, repack_misfit}
 use Rattle.grib_stream.specs.declared.place.Place.{Place}
 use Rattle.grib_stream.specs.Acts.{Act, Writes, Makes, Adds, writes, written}
 use Rattle.grib_stream.specs.Stream.{Found}
-use Rattle.grib_stream.specs.Task.{Gives}
-use Rattle.grib_command.specs.Command.{Command, given, given_unless}
+use Rattle.grib_stream.specs.Task.{Given, Gives}
+use Rattle.grib_command.specs.Command.{Command, given, given_readable, given_unless, under}
 use Rattle.grib_edit.specs.Filtering.{filtered, filter_command, all_fulfil}
 use Rattle.grib_edit.specs.Migrating.{are_octets, migrate_command}
 use Rattle.grib_edit.specs.Repacking.{cause_of, repack_command}
@@ -67,23 +71,31 @@ unmapped f (Some x) is = let no : ⊥ = cc in absurd no
 
 -- what a command writes for each message of which it has a result
 abbrev pub WritesEach : (List ℕ → List ℕ → Type 0) → Command → Type 0
-WritesEach Is command = (place : Place) (found : Found) (acts : List Act) (more : ℕ) → IsAccepted found → given command place found.octets ≡ Gives acts more
+WritesEach Is command = (place : Place) (found : Found) (acts : List Act) (more : ℕ) → IsAccepted command.profile found → given command place found.octets ≡ Gives acts more
     → Is found.octets (written acts)
+
+-- what reads the values of a message has a result of one that can be read
+read_wrote : (opaque : Option ℕ) (message : List ℕ) (place : Place) (next : Unit {0} → Given) (acts : List Act) (more : ℕ) → given_readable opaque message place next ≡ Gives acts more
+    → (opaque ≡ None) × (next tt ≡ Gives acts more)
+read_wrote None message place next acts more is = (refl, is)
+read_wrote (Some field) message place next acts more is = let no : ⊥ = cc in absurd no
 
 -- ---- `repack`
 
-module _ (target : RepackTarget) (law : (message : List ℕ) → MayBeRepacked (target_of target) message → SameValues message (repacked (target_of target) message)) (stands : IsTarget (target_of target)) where
-  repack_by : (b : Bool) (place : Place) (found : Found) (acts : List Act) (more : ℕ) → IsAccepted found → (edition found.octets == 1) ≡ b
+module _ (profile : Profile) (target : RepackTarget) (law : (message : List ℕ) → MayBeRepacked profile (target_of target) message → SameValues profile message (repacked (target_of target) message)) (stands : IsTarget (target_of target)) where
+  repack_by : (b : Bool) (place : Place) (found : Found) (acts : List Act) (more : ℕ) → IsAccepted profile found → (edition found.octets == 1) ≡ b
       → choose b (λ _. (repack_command target).first place found.octets) (λ _. (repack_command target).second place found.octets) ≡ Gives acts more
-      → IfOctets SameValues found.octets (written acts)
+      → IfOctets (SameValues profile) found.octets (written acts)
   repack_by true place found acts more accepted one is = let no : ⊥ = cc in absurd no
   repack_by false place found acts more accepted not_one is = λ small.
-      let (none, same) = unless_wrote (option_map cause_of (repack_misfit (target_of target) found.octets)) place.message (repacked (target_of target) found.octets) acts more is in
-      subst (SameValues found.octets) same
+      let read = read_wrote (first_opaque found.octets) found.octets place
+      (λ _. given_unless (option_map cause_of (repack_misfit (target_of target) found.octets)) place.message (repacked (target_of target) found.octets)) acts more is in
+      let (none, same) = unless_wrote (option_map cause_of (repack_misfit (target_of target) found.octets)) place.message (repacked (target_of target) found.octets) acts more read.1 in
+      subst (SameValues profile found.octets) same
       (law found.octets
-      (record { accepted = accepted.second not_one; are_octets = small; target_stands = stands; fits = unmapped cause_of (repack_misfit (target_of target) found.octets) none }))
+      (record { accepted = accepted.second not_one; readable = none_opaque found.octets read.0; are_octets = small; target_stands = stands; fits = unmapped cause_of (repack_misfit (target_of target) found.octets) none }))
 
-  pub repack_each : WritesEach (IfOctets SameValues) (repack_command target)
+  pub repack_each : WritesEach (IfOctets (SameValues profile)) (under profile (repack_command target))
   repack_each place found acts more accepted is = repack_by (edition found.octets == 1) place found acts more accepted refl is
 
 -- ---- `migrate`
@@ -93,37 +105,42 @@ are_small [] all = refl
 are_small (x ∷ xs) all =
     ap (λ b. b && are_octets xs) (lt-ltb x 256 (All-head (λ octet. octet < 256) x xs all)) ∙ are_small xs (All-tail (λ octet. octet < 256) x xs all)
 
-module _ (local : Local) (table : Entries) (surfaces : SurfaceEntries) where
-  own_first : (message : List ℕ) → (edition message == 1) ≡ true → MayBeMigratedWith table surfaces local message → SameMigrated message (migrated_with table surfaces local message)
+-- a message that the stated profile accepts is accepted by each
+accepted_by : (profile : Profile) (message : List ℕ) → IsMessage message → IsMessageUnder profile message
+accepted_by Stated message accepted = accepted
+accepted_by Open message accepted = any_message Stated message accepted
+
+module _ (profile : Profile) (local : Local) (table : Entries) (surfaces : SurfaceEntries) where
+  own_first : (message : List ℕ) → (edition message == 1) ≡ true → MayBeMigratedWith table surfaces local message → SameMigrated profile message (migrated_with table surfaces local message)
   own_first message one may = record {
-    accepted = chosen_is_message table surfaces local message may;
+    accepted = accepted_by profile (migrated_with table surfaces local message) (chosen_is_message table surfaces local message may);
     one_field = λ e. chosen_one_field table surfaces local message may;
     points = λ e. chosen_meaning table surfaces local message may;
     copied = λ other. absurd (other (eqb-true (edition message) 1 one));
   }
 
-  own_other : (message : List ℕ) → (edition message == 1) ≡ false → IsMessage message → SameMigrated message message
+  own_other : (message : List ℕ) → (edition message == 1) ≡ false → IsMessageUnder profile message → SameMigrated profile message message
   own_other message not_one accepted =
       let never : (edition message ≡ 1 → ⊥) = λ e. false≢true (sym not_one ∙ eq-eqb (edition message) 1 e) in
       record { accepted = accepted; one_field = λ e. absurd (never e); points = λ e. absurd (never e); copied = λ other. refl }
 
-  migrate_first : (b : Bool) (m : ℕ) (found : Found) (acts : List Act) (more : ℕ) → IsAccepted found → All (λ octet. octet < 256) found.octets → (edition found.octets == 1) ≡ true → b ≡ true
+  migrate_first : (b : Bool) (m : ℕ) (found : Found) (acts : List Act) (more : ℕ) → IsAccepted profile found → All (λ octet. octet < 256) found.octets → (edition found.octets == 1) ≡ true → b ≡ true
       → choose b (λ _. given_unless (option_map Lost (first_loss_with table surfaces local found.octets)) m (migrated_with table surfaces local found.octets)) (λ _. Gives [] 0) ≡ Gives acts more
-      → SameMigrated found.octets (written acts)
+      → SameMigrated profile found.octets (written acts)
   migrate_first false m found acts more accepted small one are is = let no : ⊥ = cc in absurd no
   migrate_first true m found acts more accepted small one are is =
       let (none, same) = unless_wrote (option_map Lost (first_loss_with table surfaces local found.octets)) m (migrated_with table surfaces local found.octets) acts more is in
-      subst (SameMigrated found.octets) same
+      subst (SameMigrated profile found.octets) same
       (own_first found.octets one (record { accepted = accepted.first one; small = small; kept = unmapped Lost (first_loss_with table surfaces local found.octets) none }))
 
-  migrate_by : (b : Bool) (place : Place) (found : Found) (acts : List Act) (more : ℕ) → IsAccepted found → (edition found.octets == 1) ≡ b
+  migrate_by : (b : Bool) (place : Place) (found : Found) (acts : List Act) (more : ℕ) → IsAccepted profile found → (edition found.octets == 1) ≡ b
       → choose b (λ _. (migrate_command local table surfaces).first place found.octets) (λ _. (migrate_command local table surfaces).second place found.octets) ≡ Gives acts more
-      → IfOctets SameMigrated found.octets (written acts)
+      → IfOctets (SameMigrated profile) found.octets (written acts)
   migrate_by true place found acts more accepted one is = λ small. migrate_first (are_octets found.octets) place.message found acts more accepted small one (are_small found.octets small) is
   migrate_by false place found acts more accepted not_one is = λ small.
-      subst (SameMigrated found.octets) (wrote found.octets _ acts more is) (own_other found.octets not_one (accepted.second not_one))
+      subst (SameMigrated profile found.octets) (wrote found.octets _ acts more is) (own_other found.octets not_one (accepted.second not_one))
 
-  pub migrate_each : WritesEach (IfOctets SameMigrated) (migrate_command local table surfaces)
+  pub migrate_each : WritesEach (IfOctets (SameMigrated profile)) (under profile (migrate_command local table surfaces))
   migrate_each place found acts more accepted is = migrate_by (edition found.octets == 1) place found acts more accepted refl is
 
 -- ---- `set`
@@ -170,32 +187,32 @@ no_fault (Some (KeyRange key)) never none = let no : ⊥ = cc in absurd no
 no_fault (Some (KeyAbsent field key)) never none = let no : ⊥ = cc in absurd no
 no_fault (Some Memory) never none = absurd (never refl)
 
-module _ (changes : List Change) (law : (message : List ℕ) → IsMessage message → set_fault message changes ≡ None → SetsKeys changes message (with_keys message changes)) where
-  set_by : (b : Bool) (place : Place) (found : Found) (acts : List Act) (more : ℕ) → IsAccepted found → (edition found.octets == 1) ≡ b
+module _ (profile : Profile) (changes : List Change) (law : (message : List ℕ) → IsMessageUnder profile message → set_fault message changes ≡ None → SetsKeys profile changes message (with_keys message changes)) where
+  set_by : (b : Bool) (place : Place) (found : Found) (acts : List Act) (more : ℕ) → IsAccepted profile found → (edition found.octets == 1) ≡ b
       → choose b (λ _. (set_command changes).first place found.octets) (λ _. (set_command changes).second place found.octets) ≡ Gives acts more
-      → SetsKeys changes found.octets (written acts)
+      → SetsKeys profile changes found.octets (written acts)
   set_by true place found acts more accepted one is = let no : ⊥ = cc in absurd no
   set_by false place found acts more accepted not_one is =
       let (none, same) = unless_wrote (set_cause (set_fault found.octets changes)) place.message (with_keys found.octets changes) acts more is in
-      subst (SetsKeys changes found.octets) same
+      subst (SetsKeys profile changes found.octets) same
       (law found.octets (accepted.second not_one) (no_fault (set_fault found.octets changes) (never_memory found.octets changes) none))
 
-  pub set_each : WritesEach (SetsKeys changes) (set_command changes)
+  pub set_each : WritesEach (SetsKeys profile changes) (under profile (set_command changes))
   set_each place found acts more accepted is = set_by (edition found.octets == 1) place found acts more accepted refl is
 
 -- ---- `filter`
 
-module _ (law : (message : List ℕ) (i : ℕ) → IsMessage message → 1 ≤ i → i ≤ field_count message → CutsOut message i) (conditions : List Wanted) where
-  filter_by : (b : Bool) (place : Place) (found : Found) (acts : List Act) (more : ℕ) → IsAccepted found → (edition found.octets == 1) ≡ b
+module _ (profile : Profile) (law : (message : List ℕ) (i : ℕ) → IsMessageUnder profile message → 1 ≤ i → i ≤ field_count message → CutsOut profile message i) (conditions : List Wanted) where
+  filter_by : (b : Bool) (place : Place) (found : Found) (acts : List Act) (more : ℕ) → IsAccepted profile found → (edition found.octets == 1) ≡ b
       → choose b (λ _. (filter_command conditions).first place found.octets) (λ _. (filter_command conditions).second place found.octets) ≡ Gives acts more
-      → IsFiltered conditions found.octets (written acts)
+      → IsFiltered profile conditions found.octets (written acts)
   filter_by true place found acts more accepted one is = let no : ⊥ = cc in absurd no
   filter_by false place found acts more accepted not_one is =
       let b = all_fulfil conditions found.octets in (
-        picked_by law conditions b found.octets,
-        sym (wrote (filtered conditions found.octets) _ acts more is) ∙ by_bool law conditions b found.octets,
-        picked_bool law conditions b found.octets (accepted.second not_one) refl,
+        picked_by profile law conditions b found.octets,
+        sym (wrote (filtered conditions found.octets) _ acts more is) ∙ by_bool profile law conditions b found.octets,
+        picked_bool profile law conditions b found.octets (accepted.second not_one) refl,
       )
 
-  pub filter_each : WritesEach (IsFiltered conditions) (filter_command conditions)
+  pub filter_each : WritesEach (IsFiltered profile conditions) (under profile (filter_command conditions))
   filter_each place found acts more accepted is = filter_by (edition found.octets == 1) place found acts more accepted refl is

@@ -5,9 +5,14 @@ use Rattle.std.proofs.lemmas.List.{length-take}
 use Rattle.grib_base.specs.Rows.{choose}
 use Rattle.grib_base.specs.declared.fault.Fault.{Fault}
 use Rattle.grib_base.specs.declared.fault.Refusal.{Refusal}
+use Rattle.grib_base.specs.declared.profile.Profile.{Profile}
 use Rattle.grib_reasons.specs.declared.cause.Cause.{Cause}
+use Rattle.grib_reasons.specs.declared.cause.Cause.TheVariants.{Packing}
 use Rattle.grib_reasons.specs.declared.cause.Kept.{Kept}
 use Rattle.grib2_sections.specs.Head.{edition}
+use Rattle.grib_packing.specs.Packing.{packing_template}
+use Rattle.grib2_message.specs.Fields.{part_octets}
+use Rattle.grib2_message.specs.Message.{first_opaque}
 use Rattle.grib_table.specs.declared.both.Tables.{Tables}
 use Rattle.grib_table.specs.Both.{Both, BothGood, ParametersRefused, SurfacesRefused}
 use Rattle.grib_least.specs.Least.{least}
@@ -28,8 +33,8 @@ use Rattle.grib_items.specs.Next.{Unknown, Refuses, next_judged, next_passed, pa
 use Rattle.grib_items.specs.Laws.{AreInOrder, item_before, item_size, is_refusal}
 use Rattle.grib_command.specs.declared.job.Job.{Job}
 use Rattle.grib_command.specs.declared.job.Job.TheVariants.{Check, List as Listing, Keys, Stats, Dump, Values, Filter, Split, Set, Repack, RepackLeast, Rescan, Crop, Migrate, Demote, Make, Print}
-use Rattle.grib_command.specs.Command.{Command, given, given_unless, kept_at, task}
-use Rattle.grib_command.specs.Judging.{judge, fields_of}
+use Rattle.grib_command.specs.Command.{Command, given, given_readable, given_unless, kept_at, of_values, task, under}
+use Rattle.grib_command.specs.Judging.{judge_under, fields_of}
 use Rattle.grib_command.specs.Texts.{texts}
 use Rattle.grib_report.specs.Checking.{check_command}
 use Rattle.grib_report.specs.Listing.{list_command}
@@ -49,7 +54,7 @@ use Rattle.grib_edit.specs.Demoting.{demote_command}
 use Rattle.grib_run_spec.specs.Seen.{Seen}
 use Rattle.grib_run_spec.specs.Serving.{Gives as RunGives, Reading, AtOnce, AnswersWork}
 use Rattle.grib_run_spec.specs.Stated.{IfTabled, outcome_by, stated_to}
-use Rattle.grib_run_spec.specs.Tasks.{Stated, Work, Reads, Makes, ReadsTables, work_of}
+use Rattle.grib_run_spec.specs.Tasks.{Stated, Work, Reads, Makes, ReadsTables, by_profile, work_of_job, work_under}
 use Rattle.grib_run_law.specs.Answered.{is_longer, items_of, items_answered}
 use Rattle.grib_run_law.specs.Judged.{IsRefused, messages_of, NamesRow, Judges}
 use Rattle.grib_run_law.proofs.Accepting.{ItemsStand, is_refused, judged_all}
@@ -77,6 +82,15 @@ text_never : (cause : Option Cause) (m : ℕ) (text : List ℕ) → NoneRefuses 
 text_never None m text = gives_never _ _
 text_never (Some cause) m text = kept_never m cause
 
+-- what reads values, where this field is the first of an opaque packing
+readable_never : (opaque : Option ℕ) (message : List ℕ) (place : Place) (next : Unit {0} → Given) → NoneRefuses (next tt) → NoneRefuses (given_readable opaque message place next)
+readable_never None message place next never = never
+readable_never (Some field) message place next never = kept_never place.message (Packing (packing_template (part_octets message field 5)) field)
+
+values_never : (second : Place → List ℕ → Given) → ((place : Place) (message : List ℕ) → NoneRefuses (second place message))
+    → (place : Place) (message : List ℕ) → NoneRefuses (of_values second place message)
+values_never second never place message = readable_never (first_opaque message) message place (λ _. second place message) (never place message)
+
 either_never : (b : Bool) (g h : Given) → NoneRefuses g → NoneRefuses h → NoneRefuses (choose b (λ _. g) (λ _. h))
 either_never true g h first second = first
 either_never false g h first second = second
@@ -91,24 +105,30 @@ NeverWork (Reads command) = NeverRefuses command
 NeverWork (Makes stated) = is_refusal stated.outcome ≡ false
 NeverWork (ReadsTables params surfaces commands) = (tables : Tables) → NeverRefuses (commands tables)
 
-job_never : (job : Job) → NeverWork (work_of job)
+-- the profile does not matter
+profile_never : (profile : Profile) (work : Work) → NeverWork work → NeverWork (by_profile profile work)
+profile_never profile (Reads command) never = never
+profile_never profile (Makes stated) never = never
+profile_never profile (ReadsTables params surfaces commands) never = never
+
+job_never : (job : Job) → NeverWork (work_of_job job)
 job_never Check = by_edition check_command (λ place message. gives_never _ _) (λ place message. gives_never _ _)
 job_never Listing = by_edition list_command (λ place message. gives_never _ _) (λ place message. gives_never _ _)
 job_never Keys = by_edition keys_command (λ place message. gives_never _ _) (λ place message. gives_never _ _)
-job_never Stats = by_edition stats_command (λ place message. gives_never _ _) (λ place message. gives_never _ _)
-job_never (Dump None) = by_edition dump_command (λ place message. gives_never _ _) (λ place message. gives_never _ _)
-job_never (Dump (Some places)) = by_edition (value_command places) (λ place message. text_never _ _ _) (λ place message. text_never _ _ _)
-job_never (Values format) = by_edition (values_command format) (λ place message. gives_never _ _) (λ place message. gives_never _ _)
+job_never Stats = by_edition stats_command (λ place message. gives_never _ _) (values_never _ (λ place message. gives_never _ _))
+job_never (Dump None) = by_edition dump_command (λ place message. gives_never _ _) (values_never _ (λ place message. gives_never _ _))
+job_never (Dump (Some places)) = by_edition (value_command places) (λ place message. text_never _ _ _) (values_never _ (λ place message. text_never _ _ _))
+job_never (Values format) = by_edition (values_command format) (λ place message. gives_never _ _) (values_never _ (λ place message. gives_never _ _))
 job_never (Filter conditions) = by_edition (filter_command conditions) (λ place message. kept_never _ _) (λ place message. gives_never _ _)
 job_never (Split name) = by_edition (split_command name) (λ place message. kept_never _ _) (λ place message. gives_never _ _)
 job_never (Set changes) = by_edition (set_command changes) (λ place message. kept_never _ _) (λ place message. unless_never _ _ _)
-job_never (Repack target) = by_edition (repack_command target) (λ place message. kept_never _ _) (λ place message. unless_never _ _ _)
-job_never RepackLeast = by_edition least_command (λ place message. kept_never _ _) (λ place message. unless_never None place.message (least message))
-job_never Rescan = by_edition (edit_command edits.Rescan) (λ place message. kept_never _ _) (λ place message. unless_never _ _ _)
-job_never (Crop area) = by_edition (edit_command (edits.Crop area)) (λ place message. kept_never _ _) (λ place message. unless_never _ _ _)
+job_never (Repack target) = by_edition (repack_command target) (λ place message. kept_never _ _) (values_never _ (λ place message. unless_never _ _ _))
+job_never RepackLeast = by_edition least_command (λ place message. kept_never _ _) (values_never _ (λ place message. unless_never None place.message (least message)))
+job_never Rescan = by_edition (edit_command edits.Rescan) (λ place message. kept_never _ _) (values_never _ (λ place message. unless_never _ _ _))
+job_never (Crop area) = by_edition (edit_command (edits.Crop area)) (λ place message. kept_never _ _) (values_never _ (λ place message. unless_never _ _ _))
 job_never (Migrate params surfaces local) = λ tables.
     by_edition (migrate_command local tables.parameters tables.surfaces) (λ place message. either_never (are_octets message) _ _ (unless_never _ _ _) (gives_never _ _)) (λ place message. gives_never _ _)
-job_never (Demote params keep any_earth matching) = λ tables. by_edition (demote_command matching keep any_earth tables.parameters) (λ place message. gives_never _ _) (λ place message. unless_never _ _ _)
+job_never (Demote params keep any_earth matching) = λ tables. by_edition (demote_command matching keep any_earth tables.parameters) (λ place message. gives_never _ _) (values_never _ (λ place message. unless_never _ _ _))
 job_never (Make seed ni nj target) = refl
 job_never (Print page) = refl
 
@@ -165,140 +185,143 @@ module _ (command : Command) (never : NeverRefuses command) (policy : Policy) wh
       let own = answers_refused (one_refused counts (length (refused_instead policy.refused refused.octets))) items end refusal is in
       record { ends = own.ends; number = own.number }
 
--- ---- where it stands
+-- ---- by a profile
 
--- the octets behind some are refused, and these items end before them, of which the first begins behind this many
-record IsBehind (fault : Fault) (place inside : ℕ) (octets : List ℕ) (items : List Item) : Type 0 where
-  size : ℕ
-  order : AreInOrder (place + inside) items (place + size)
-  there : IsRefused fault (drop size octets)
+module _ (profile : Profile) where
+  -- ---- where it stands
 
-lower : (items : List Item) (p q end : ℕ) → q ≤ p → AreInOrder p items end → AreInOrder q items end
-lower [] p q end less order = omega (arith, less, order)
-lower (item ∷ later) p q end less order = (omega (arith, less, order.0), order.1)
+  -- the octets behind some are refused, and these items end before them, of which the first begins behind this many
+  record IsBehind (fault : Fault) (place inside : ℕ) (octets : List ℕ) (items : List Item) : Type 0 where
+    size : ℕ
+    order : AreInOrder (place + inside) items (place + size)
+    there : IsRefused profile fault (drop size octets)
 
--- one octet more before them
-behind_one : (fault : Fault) (place inside from : ℕ) (octet : ℕ) (octets : List ℕ) (items : List Item) → from ≤ inside + 1 → IsBehind fault (place + 1) inside octets items
-    → IsBehind fault place from (octet ∷ octets) items
-behind_one fault place inside from octet octets items less behind =
-    let e : (place + 1) + behind.size ≡ place + suc behind.size = omega arith in
-    record {
-      size = suc behind.size;
-      order = subst (AreInOrder (place + from) items) e (lower items ((place + 1) + inside) (place + from) ((place + 1) + behind.size) (omega (arith, less)) behind.order);
-      there = behind.there;
-    }
+  lower : (items : List Item) (p q end : ℕ) → q ≤ p → AreInOrder p items end → AreInOrder q items end
+  lower [] p q end less order = omega (arith, less, order)
+  lower (item ∷ later) p q end less order = (omega (arith, less, order.0), order.1)
 
--- an item that begins here, and others behind it
-behind_item : (fault : Fault) (place inside : ℕ) (octets : List ℕ) (item : Item) (later : List Item) → item_before item ≡ place → item_size item ≤ inside → IsBehind fault place inside octets later
-    → IsBehind fault place 0 octets (item ∷ later)
-behind_item fault place inside octets item later here less behind = record {
-  size = behind.size;
-  order = (omega (arith, here), lower later (place + inside) (item_before item + item_size item) (place + behind.size) (omega (arith, here, less)) behind.order);
-  there = behind.there;
-}
-
-module _ (fault : Fault) (place skipped octet : ℕ) (octets : List ℕ) (go : ℕ → ℕ → Items) (later : (inside skipped : ℕ) → (go inside skipped).end ≡ Refusing fault → IsBehind fault (place + 1) inside octets (go inside skipped).items) where
-  behind_faulty : (waits passing : Bool) (own : Fault) (far : Option ℕ) → IsRefused own (octet ∷ octets)
-      → (on_next (cond waits Unknown (cond passing (next_passed own far) (Refuses own))) place skipped (octet ∷ octets) go).end ≡ Refusing fault
-      → IsBehind fault place 0 (octet ∷ octets) (on_next (cond waits Unknown (cond passing (next_passed own far) (Refuses own))) place skipped (octet ∷ octets) go).items
-  behind_faulty true passing own far refused is = let no : ⊥ = cc in absurd no
-  behind_faulty false false own far refused is =
-      let same : own ≡ fault = cc in
-      record { size = 0; order = omega arith; there = subst (λ f. IsRefused f (octet ∷ octets)) same refused }
-  behind_faulty false true own None refused is = let no : ⊥ = cc in absurd no
-  behind_faulty false true own (Some size) refused is =
-      let rest = later (size - 1) (skipped + size) is in
-      behind_item fault place (size - 1 + 1) (octet ∷ octets) (Refused (passed_after place own (take size (octet ∷ octets)))) _ refl (omega (arith, length-take size (octet ∷ octets)))
-      (behind_one fault place (size - 1) (size - 1 + 1) octet octets _ (omega arith) rest)
-
-  behind_judged : (passing more : Bool) (j : Judgement) → begins (octet ∷ octets) ≡ true → judge (octet ∷ octets) ≡ j
-      → (on_next (next_judged passing more (octet ∷ octets) j) place skipped (octet ∷ octets) go).end ≡ Refusing fault
-      → IsBehind fault place 0 (octet ∷ octets) (on_next (next_judged passing more (octet ∷ octets) j) place skipped (octet ∷ octets) go).items
-  behind_judged passing more (Message total) begun judged is =
-      behind_item fault place (total - 1 + 1) (octet ∷ octets) (Accepted (message_after place (take total (octet ∷ octets)))) _ refl (omega (arith, length-take total (octet ∷ octets)))
-      (behind_one fault place (total - 1) (total - 1 + 1) octet octets _ (omega arith) (later (total - 1) skipped is))
-  behind_judged passing more (Faulty own) begun judged is =
-      behind_faulty (more && is_truncated own.reason) passing own (passed more (octet ∷ octets)) (is_refused (octet ∷ octets) own begun judged) is
-
-behind_either : (b : Bool) (x y : Items) (fault : Fault) (place : ℕ) (octets : List ℕ) → (b ≡ true → x.end ≡ Refusing fault → IsBehind fault place 0 octets x.items)
-    → (y.end ≡ Refusing fault → IsBehind fault place 0 octets y.items) → (choose b (λ _. x) (λ _. y)).end ≡ Refusing fault → IsBehind fault place 0 octets (choose b (λ _. x) (λ _. y)).items
-behind_either true x y fault place octets first second is = first refl is
-behind_either false x y fault place octets first second is = second is
-
-behind_end : (b : Bool) (fault : Fault) (skipped : ℕ) → end_by b skipped ≡ Refusing fault → ⊥
-behind_end true fault skipped is = cc
-behind_end false fault skipped is = cc
-
-behind_from : (passing more : Bool) (inside place skipped : ℕ) (octets : List ℕ) (fault : Fault) → (items_from judge passing more inside place skipped octets).end ≡ Refusing fault
-    → IsBehind fault place inside octets (items_from judge passing more inside place skipped octets).items
-behind_from passing more zero place skipped [] fault is = absurd (behind_end more fault skipped is)
-behind_from passing more (suc inside) place skipped [] fault is = absurd (behind_end more fault skipped is)
-behind_from passing more (suc inside) place skipped (octet ∷ octets) fault is =
-    behind_one fault place inside (suc inside) octet octets _ (omega arith) (behind_from passing more inside (place + 1) skipped octets fault is)
-behind_from passing more zero place skipped (octet ∷ octets) fault is =
-    behind_either (begins (octet ∷ octets)) _ _ fault place (octet ∷ octets)
-    (λ begun ends. behind_judged fault place skipped octet octets (λ inside skipped. items_from judge passing more inside (place + 1) skipped octets)
-    (λ inside skipped ends. behind_from passing more inside (place + 1) skipped octets fault ends) passing more (judge (octet ∷ octets)) begun refl ends)
-    (λ ends. behind_one fault place 0 0 octet octets _ (omega arith) (behind_from passing more zero (place + 1) (skipped + 1) octets fault ends)) is
-
-from_nothing : (items : List Item) (size : ℕ) → AreInOrder (0 + 0) items (0 + size) → AreInOrder 0 items size
-from_nothing items size order = let e : 0 + size ≡ size = omega arith in subst (AreInOrder 0 items) e order
-
-refused_behind : (policy : Policy) (more : Bool) (octets : List ℕ) (fault : Fault) → (items_of policy more octets).end ≡ Refusing fault
-    → (before : ℕ) × AreInOrder 0 (items_of policy more octets).items before × IsRefused fault (drop before octets)
-refused_behind policy more octets fault is =
-    let behind = behind_from (passes policy) more 0 0 0 octets fault is in
-    (behind.size, from_nothing (items_of policy more octets).items behind.size behind.order, behind.there)
-
--- ---- a run
-
-of_some : {X : Type 0} (P : X → Type 0) (x : Option X) → ((x : X) → P x) → IfSome x P
-of_some P None all = tt
-of_some P (Some x) all = all x
-
-module _ (stand : ItemsStand) where
-  row_number : (items : List Item) (end : End) (refusal : Refusal) → IsEnd 0 items end refusal → refusal.message ≡ length (messages_of items) + 1
-  row_number items end refusal own = let number : refusal.message ≡ 0 + length (messages_of items) + 1 = own.number in omega arith
-
-  names_row : (command : Command) → NeverRefuses command → (policy : Policy) (input : List ℕ) (refusal : Refusal)
-      → (stated_to command policy input).outcome ≡ outcomes.Refused refusal → NamesRow policy input refusal
-  names_row command never policy input refusal is =
-      let found = items_answered policy input in
-      let own = answers_refused command never policy no_counts found.items found.end refusal (sym (ap (λ stated. stated.outcome) (stated_within command policy input)) ∙ is) in
+  -- one octet more before them
+  behind_one : (fault : Fault) (place inside from : ℕ) (octet : ℕ) (octets : List ℕ) (items : List Item) → from ≤ inside + 1 → IsBehind fault (place + 1) inside octets items
+      → IsBehind fault place from (octet ∷ octets) items
+  behind_one fault place inside from octet octets items less behind =
+      let e : (place + 1) + behind.size ≡ place + suc behind.size = omega arith in
       record {
-        ends = own.ends;
-        there = refused_behind policy (is_longer input) (take (2 ^ 40) input) refusal.fault own.ends;
-        number = row_number found.items found.end refusal own;
+        size = suc behind.size;
+        order = subst (AreInOrder (place + from) items) e (lower items ((place + 1) + inside) (place + from) ((place + 1) + behind.size) (omega (arith, less)) behind.order);
+        there = behind.there;
       }
 
-  judges : (policy : Policy) (outcome : Outcome) (input : List ℕ) → ((refusal : Refusal) → outcome ≡ outcomes.Refused refusal → NamesRow policy input refusal) → Judges policy outcome input
-  judges policy outcome input row = record {
-    items = judged_all (is_longer input) (take (2 ^ 40) input) (items_answered policy input).items (stand policy (is_longer input) (take (2 ^ 40) input));
-    refusal = row;
+  -- an item that begins here, and others behind it
+  behind_item : (fault : Fault) (place inside : ℕ) (octets : List ℕ) (item : Item) (later : List Item) → item_before item ≡ place → item_size item ≤ inside → IsBehind fault place inside octets later
+      → IsBehind fault place 0 octets (item ∷ later)
+  behind_item fault place inside octets item later here less behind = record {
+    size = behind.size;
+    order = (omega (arith, here), lower later (place + inside) (item_before item + item_size item) (place + behind.size) (omega (arith, here, less)) behind.order);
+    there = behind.there;
   }
 
-  reading_judges : (policy : Policy) (outcome : Outcome) (before now : Seen) (command : Command) → NeverRefuses command → Reading policy outcome before now command
-      → IfSome before.left (Judges policy outcome)
-  reading_judges policy outcome before now command never reading =
-      each_some (λ input. RunGives (stated_to command policy input) outcome before now) (Judges policy outcome) before.left
-      (λ input gives. judges policy outcome input (λ refusal is. names_row command never policy input refusal (sym (gives.ends (ap is_broken is)) ∙ is))) reading.gives
+  module _ (fault : Fault) (place skipped octet : ℕ) (octets : List ℕ) (go : ℕ → ℕ → Items) (later : (inside skipped : ℕ) → (go inside skipped).end ≡ Refusing fault → IsBehind fault (place + 1) inside octets (go inside skipped).items) where
+    behind_faulty : (waits passing : Bool) (own : Fault) (far : Option ℕ) → IsRefused profile own (octet ∷ octets)
+        → (on_next (cond waits Unknown (cond passing (next_passed own far) (Refuses own))) place skipped (octet ∷ octets) go).end ≡ Refusing fault
+        → IsBehind fault place 0 (octet ∷ octets) (on_next (cond waits Unknown (cond passing (next_passed own far) (Refuses own))) place skipped (octet ∷ octets) go).items
+    behind_faulty true passing own far refused is = let no : ⊥ = cc in absurd no
+    behind_faulty false false own far refused is =
+        let same : own ≡ fault = cc in
+        record { size = 0; order = omega arith; there = subst (λ f. IsRefused profile f (octet ∷ octets)) same refused }
+    behind_faulty false true own None refused is = let no : ⊥ = cc in absurd no
+    behind_faulty false true own (Some size) refused is =
+        let rest = later (size - 1) (skipped + size) is in
+        behind_item fault place (size - 1 + 1) (octet ∷ octets) (Refused (passed_after place own (take size (octet ∷ octets)))) _ refl (omega (arith, length-take size (octet ∷ octets)))
+        (behind_one fault place (size - 1) (size - 1 + 1) octet octets _ (omega arith) rest)
 
-  at_once_judges : (policy : Policy) (outcome : Outcome) (before now : Seen) (stated : Stated) → is_refusal stated.outcome ≡ false → AtOnce outcome before now stated
-      → IfSome before.left (Judges policy outcome)
-  at_once_judges policy outcome before now stated never once =
-      of_some (Judges policy outcome) before.left
-      (λ input. judges policy outcome input (λ refusal is. absurd (false≢true (sym never ∙ ap is_refusal (sym (once.gives.ends (ap is_broken is)) ∙ is)))))
+    behind_judged : (passing more : Bool) (j : Judgement) → begins (octet ∷ octets) ≡ true → judge_under profile (octet ∷ octets) ≡ j
+        → (on_next (next_judged passing more (octet ∷ octets) j) place skipped (octet ∷ octets) go).end ≡ Refusing fault
+        → IsBehind fault place 0 (octet ∷ octets) (on_next (next_judged passing more (octet ∷ octets) j) place skipped (octet ∷ octets) go).items
+    behind_judged passing more (Message total) begun judged is =
+        behind_item fault place (total - 1 + 1) (octet ∷ octets) (Accepted (message_after place (take total (octet ∷ octets)))) _ refl (omega (arith, length-take total (octet ∷ octets)))
+        (behind_one fault place (total - 1) (total - 1 + 1) octet octets _ (omega arith) (later (total - 1) skipped is))
+    behind_judged passing more (Faulty own) begun judged is =
+        behind_faulty (more && is_truncated own.reason) passing own (passed more (octet ∷ octets)) (is_refused profile (octet ∷ octets) own begun judged) is
 
-  tabled_judges : (policy : Policy) (outcome : Outcome) (before now : Seen) (commands : Tables → Command) → ((tables : Tables) → NeverRefuses (commands tables)) → (t : Both)
-      → IfTabled commands (Reading policy outcome before now) (AtOnce outcome before now) t → IfSome before.left (Judges policy outcome)
-  tabled_judges policy outcome before now commands never (BothGood tables) answers = reading_judges policy outcome before now (commands tables) (never tables) answers
-  tabled_judges policy outcome before now commands never (ParametersRefused refusal) answers = at_once_judges policy outcome before now _ refl answers
-  tabled_judges policy outcome before now commands never (SurfacesRefused refusal) answers = at_once_judges policy outcome before now _ refl answers
+  behind_either : (b : Bool) (x y : Items) (fault : Fault) (place : ℕ) (octets : List ℕ) → (b ≡ true → x.end ≡ Refusing fault → IsBehind fault place 0 octets x.items)
+      → (y.end ≡ Refusing fault → IsBehind fault place 0 octets y.items) → (choose b (λ _. x) (λ _. y)).end ≡ Refusing fault → IsBehind fault place 0 octets (choose b (λ _. x) (λ _. y)).items
+  behind_either true x y fault place octets first second is = first refl is
+  behind_either false x y fault place octets first second is = second is
 
-  work_judges : (work : Work) → NeverWork work → (policy : Policy) (outcome : Outcome) (before now : Seen) → AnswersWork work policy outcome before now → IfSome before.left (Judges policy outcome)
-  work_judges (Reads command) never policy outcome before now answers = reading_judges policy outcome before now command never answers
-  work_judges (Makes stated) never policy outcome before now answers = at_once_judges policy outcome before now stated never answers
-  work_judges (ReadsTables params surfaces commands) never policy outcome before now (read, stood, answers) = tabled_judges policy outcome before now commands never _ answers
+  behind_end : (b : Bool) (fault : Fault) (skipped : ℕ) → end_by b skipped ≡ Refusing fault → ⊥
+  behind_end true fault skipped is = cc
+  behind_end false fault skipped is = cc
 
-  pub job_judges : (job : Job) (policy : Policy) (outcome : Outcome) (before now : Seen) → AnswersWork (work_of job) policy outcome before now → IfSome before.left (Judges policy outcome)
-  job_judges job policy outcome before now answers = work_judges (work_of job) (job_never job) policy outcome before now answers
+  behind_from : (passing more : Bool) (inside place skipped : ℕ) (octets : List ℕ) (fault : Fault) → (items_from (judge_under profile) passing more inside place skipped octets).end ≡ Refusing fault
+      → IsBehind fault place inside octets (items_from (judge_under profile) passing more inside place skipped octets).items
+  behind_from passing more zero place skipped [] fault is = absurd (behind_end more fault skipped is)
+  behind_from passing more (suc inside) place skipped [] fault is = absurd (behind_end more fault skipped is)
+  behind_from passing more (suc inside) place skipped (octet ∷ octets) fault is =
+      behind_one fault place inside (suc inside) octet octets _ (omega arith) (behind_from passing more inside (place + 1) skipped octets fault is)
+  behind_from passing more zero place skipped (octet ∷ octets) fault is =
+      behind_either (begins (octet ∷ octets)) _ _ fault place (octet ∷ octets)
+      (λ begun ends. behind_judged fault place skipped octet octets (λ inside skipped. items_from (judge_under profile) passing more inside (place + 1) skipped octets)
+      (λ inside skipped ends. behind_from passing more inside (place + 1) skipped octets fault ends) passing more (judge_under profile (octet ∷ octets)) begun refl ends)
+      (λ ends. behind_one fault place 0 0 octet octets _ (omega arith) (behind_from passing more zero (place + 1) (skipped + 1) octets fault ends)) is
+
+  from_nothing : (items : List Item) (size : ℕ) → AreInOrder (0 + 0) items (0 + size) → AreInOrder 0 items size
+  from_nothing items size order = let e : 0 + size ≡ size = omega arith in subst (AreInOrder 0 items) e order
+
+  refused_behind : (policy : Policy) (more : Bool) (octets : List ℕ) (fault : Fault) → (items_of profile policy more octets).end ≡ Refusing fault
+      → (before : ℕ) × AreInOrder 0 (items_of profile policy more octets).items before × IsRefused profile fault (drop before octets)
+  refused_behind policy more octets fault is =
+      let behind = behind_from (passes policy) more 0 0 0 octets fault is in
+      (behind.size, from_nothing (items_of profile policy more octets).items behind.size behind.order, behind.there)
+
+  -- ---- a run
+
+  of_some : {X : Type 0} (P : X → Type 0) (x : Option X) → ((x : X) → P x) → IfSome x P
+  of_some P None all = tt
+  of_some P (Some x) all = all x
+
+  module _ (stand : ItemsStand profile) where
+    row_number : (items : List Item) (end : End) (refusal : Refusal) → IsEnd 0 items end refusal → refusal.message ≡ length (messages_of items) + 1
+    row_number items end refusal own = let number : refusal.message ≡ 0 + length (messages_of items) + 1 = own.number in omega arith
+
+    names_row : (command : Command) → NeverRefuses (under profile command) → (policy : Policy) (input : List ℕ) (refusal : Refusal)
+        → (stated_to (under profile command) policy input).outcome ≡ outcomes.Refused refusal → NamesRow profile policy input refusal
+    names_row command never policy input refusal is =
+        let found = items_answered profile policy input in
+        let own = answers_refused (under profile command) never policy no_counts found.items found.end refusal (sym (ap (λ stated. stated.outcome) (stated_within (under profile command) policy input)) ∙ is) in
+        record {
+          ends = own.ends;
+          there = refused_behind policy (is_longer input) (take (2 ^ 40) input) refusal.fault own.ends;
+          number = row_number found.items found.end refusal own;
+        }
+
+    judges : (policy : Policy) (outcome : Outcome) (input : List ℕ) → ((refusal : Refusal) → outcome ≡ outcomes.Refused refusal → NamesRow profile policy input refusal) → Judges profile policy outcome input
+    judges policy outcome input row = record {
+      items = judged_all profile (is_longer input) (take (2 ^ 40) input) (items_answered profile policy input).items (stand policy (is_longer input) (take (2 ^ 40) input));
+      refusal = row;
+    }
+
+    reading_judges : (policy : Policy) (outcome : Outcome) (before now : Seen) (command : Command) → NeverRefuses (under profile command) → Reading policy outcome before now (under profile command)
+        → IfSome before.left (Judges profile policy outcome)
+    reading_judges policy outcome before now command never reading =
+        each_some (λ input. RunGives (stated_to (under profile command) policy input) outcome before now) (Judges profile policy outcome) before.left
+        (λ input gives. judges policy outcome input (λ refusal is. names_row command never policy input refusal (sym (gives.ends (ap is_broken is)) ∙ is))) reading.gives
+
+    at_once_judges : (policy : Policy) (outcome : Outcome) (before now : Seen) (stated : Stated) → is_refusal stated.outcome ≡ false → AtOnce outcome before now stated
+        → IfSome before.left (Judges profile policy outcome)
+    at_once_judges policy outcome before now stated never once =
+        of_some (Judges profile policy outcome) before.left
+        (λ input. judges policy outcome input (λ refusal is. absurd (false≢true (sym never ∙ ap is_refusal (sym (once.gives.ends (ap is_broken is)) ∙ is)))))
+
+    tabled_judges : (policy : Policy) (outcome : Outcome) (before now : Seen) (commands : Tables → Command) → ((tables : Tables) → NeverRefuses (under profile (commands tables))) → (t : Both)
+        → IfTabled (λ tables. under profile (commands tables)) (Reading policy outcome before now) (AtOnce outcome before now) t → IfSome before.left (Judges profile policy outcome)
+    tabled_judges policy outcome before now commands never (BothGood tables) answers = reading_judges policy outcome before now (commands tables) (never tables) answers
+    tabled_judges policy outcome before now commands never (ParametersRefused refusal) answers = at_once_judges policy outcome before now _ refl answers
+    tabled_judges policy outcome before now commands never (SurfacesRefused refusal) answers = at_once_judges policy outcome before now _ refl answers
+
+    work_judges : (work : Work) → NeverWork (by_profile profile work) → (policy : Policy) (outcome : Outcome) (before now : Seen) → AnswersWork (by_profile profile work) policy outcome before now → IfSome before.left (Judges profile policy outcome)
+    work_judges (Reads command) never policy outcome before now answers = reading_judges policy outcome before now command never answers
+    work_judges (Makes stated) never policy outcome before now answers = at_once_judges policy outcome before now stated never answers
+    work_judges (ReadsTables params surfaces commands) never policy outcome before now (read, stood, answers) = tabled_judges policy outcome before now commands never _ answers
+
+    pub job_judges : (job : Job) (policy : Policy) (outcome : Outcome) (before now : Seen) → AnswersWork (work_under profile job) policy outcome before now → IfSome before.left (Judges profile policy outcome)
+    job_judges job policy outcome before now answers = work_judges (work_of_job job) (profile_never profile (work_of_job job) (job_never job)) policy outcome before now answers

@@ -5,6 +5,7 @@ use Rattle.std.proofs.lemmas.Bool.{false≢true}
 use Rattle.std.proofs.lemmas.List.{take_all, length-take}
 use Rattle.std.proofs.lemmas.List.Elements.{All-take}
 use Rattle.grib_base.specs.Rows.{choose}
+use Rattle.grib_base.specs.declared.profile.Profile.{Profile}
 use Rattle.grib_keys.specs.declared.condition.Change.{Change}
 use Rattle.grib_keys.specs.declared.wanted.Wanted.{Wanted}
 use Rattle.grib_params.specs.Table.{Entries}
@@ -22,7 +23,7 @@ use Rattle.grib_items.specs.Run.{answer_of, answer_within}
 use Rattle.grib_items.specs.Steps.{Plan}
 use Rattle.grib_command.specs.declared.job.Job.{Job}
 use Rattle.grib_command.specs.declared.job.Job.TheVariants.{Check, List as Listing, Keys, Stats, Dump, Values, Filter, Split, Set, Repack, RepackLeast, Rescan, Crop, Migrate, Demote, Make, Print}
-use Rattle.grib_command.specs.Command.{Command}
+use Rattle.grib_command.specs.Command.{Command, under}
 use Rattle.grib_command.specs.Jobs.{IsJob, CanChange, is_target}
 use Rattle.grib_edit.specs.Filtering.{filter_command}
 use Rattle.grib_edit.specs.Migrating.{migrate_command}
@@ -32,7 +33,7 @@ use Rattle.grib_edit.specs.Splitting.{split_command}
 use Rattle.grib_run_spec.specs.Seen.{Seen, world_of}
 use Rattle.grib_run_spec.specs.Serving.{Gives, Reading, AtOnce, AnswersWork}
 use Rattle.grib_run_spec.specs.Stated.{IfTabled, plan_by, stated_by, stated_to}
-use Rattle.grib_run_spec.specs.Tasks.{migrating, work_of}
+use Rattle.grib_run_spec.specs.Tasks.{migrating, work_under}
 use Rattle.grib_run_law.specs.Answered.{is_longer, items_answered, items_of}
 use Rattle.grib_run_law.specs.Leaving.{AppendsItems, LeavesItems, IfGood, Leaves}
 use Rattle.grib_run_law.specs.Same.{SameValues, SameMigrated, SetsKeys, IsFiltered, AreOctets, IfOctets}
@@ -86,7 +87,7 @@ appends Is command policy outcome before now input unbroken wrote gives whole =
     record {
       octets = written stated.acts;
       appended = subst (λ acts. Appends before.output now.output (written acts)) (ap (λ s. s.acts) same) (gives.whole unbroken).did.output;
-      written = subst (λ o. WritesItems Is command policy o (items_answered policy input).items (written stated.acts)) (sym (gives.ends unbroken ∙ ap (λ s. s.outcome) same)) wrote;
+      written = subst (λ o. WritesItems Is command policy o (items_answered command.profile policy input).items (written stated.acts)) (sym (gives.ends unbroken ∙ ap (λ s. s.outcome) same)) wrote;
       whole = whole;
     }
 
@@ -112,51 +113,51 @@ leaves Told Is command policy outcome before now wrote of_octets reading unbroke
 
 -- ---- what stands on a shelf
 
-puts_parts : (out : List ℕ) (policy : Policy) (outcome : Outcome) (before now : Seen) (input : List ℕ) → Gives (stated_to (split_command out) policy input) outcome before now
-    → PutsParts out policy outcome before now input
-puts_parts out policy outcome before now input gives =
-    let command = split_command out in
+puts_parts : (profile : Profile) (out : List ℕ) (policy : Policy) (outcome : Outcome) (before now : Seen) (input : List ℕ) → Gives (stated_to (under profile (split_command out)) policy input) outcome before now
+    → PutsParts profile out policy outcome before now input
+puts_parts profile out policy outcome before now input gives =
+    let command = under profile (split_command out) in
     let same = ap (λ s. s.acts) (stated_within command policy input) in
     let short : length (take (2 ^ 40) input) < 2 ^ 64 = omega (arith, length-take (2 ^ 40) input) in
     record {
-      first = stands_first out policy (is_longer input) (take (2 ^ 40) input) (world_of before) (world_of now) short (subst (DidFront (world_of before) (world_of now)) same gives.front);
+      first = stands_first profile out policy (is_longer input) (take (2 ^ 40) input) (world_of before) (world_of now) short (subst (DidFront (world_of before) (world_of now)) same gives.front);
       whole = λ unbroken.
-          stands_all out policy (is_longer input) (take (2 ^ 40) input) (world_of before) (world_of now) short (subst (Did (world_of before) (world_of now)) same (gives.whole unbroken).did);
+          stands_all profile out policy (is_longer input) (take (2 ^ 40) input) (world_of before) (world_of now) short (subst (Did (world_of before) (world_of now)) same (gives.whole unbroken).did);
     }
 
-leaves_names : (out : List ℕ) (policy : Policy) (outcome : Outcome) (before now : Seen) → Reading policy outcome before now (split_command out) → LeavesNames out policy outcome before now
-leaves_names out policy outcome before now reading = record {
-  left = each_some (λ input. Gives (stated_to (split_command out) policy input) outcome before now) (PutsParts out policy outcome before now) before.left
-      (puts_parts out policy outcome before now) reading.gives;
+leaves_names : (profile : Profile) (out : List ℕ) (policy : Policy) (outcome : Outcome) (before now : Seen) → Reading policy outcome before now (under profile (split_command out)) → LeavesNames profile out policy outcome before now
+leaves_names profile out policy outcome before now reading = record {
+  left = each_some (λ input. Gives (stated_to (under profile (split_command out)) policy input) outcome before now) (PutsParts profile out policy outcome before now) before.left
+      (puts_parts profile out policy outcome before now) reading.gives;
   taken =
       let (taken, takes, took) = reading.taken in (
         taken,
         takes,
         (
-          puts_parts out policy outcome before now taken took.answered,
-          λ fault. read_all out policy taken (world_of before) (world_of now) (omega (arith, took.most)) (took.read_fault fault).did,
+          puts_parts profile out policy outcome before now taken took.answered,
+          λ fault. read_all profile out policy taken (world_of before) (world_of now) (omega (arith, took.most)) (took.read_fault fault).did,
         ),
       );
 }
 
 -- ---- a job
 
-module _ (stand : ItemsStand) (repacked : (target : RepackTarget) (policy : Policy) (more : Bool) (octets : List ℕ) → is_target target ≡ true → Writes (IfOctets SameValues) (repack_command target) policy more octets) (migrated : (local : Local) (table : Entries) (surfaces : SurfaceEntries) (policy : Policy) (more : Bool) (octets : List ℕ) → Writes (IfOctets SameMigrated) (migrate_command local table surfaces) policy more octets) (set : (changes : List Change) (policy : Policy) (more : Bool) (octets : List ℕ) → CanChange changes → Writes (SetsKeys changes) (set_command changes) policy more octets) (filtered : (conditions : List Wanted) (policy : Policy) (more : Bool) (octets : List ℕ) → Writes (IsFiltered conditions) (filter_command conditions) policy more octets) where
-  of_octets : (Is : List ℕ → List ℕ → Type 0) (command : Command) (policy : Policy) (more : Bool) (octets : List ℕ) → AreOctets octets → Writes (IfOctets Is) command policy more octets
-      → Writes Is command policy more octets
+module _ (profile : Profile) (stand : ItemsStand profile) (repacked : (target : RepackTarget) (policy : Policy) (more : Bool) (octets : List ℕ) → is_target target ≡ true → Writes (IfOctets (SameValues profile)) (under profile (repack_command target)) policy more octets) (migrated : (local : Local) (table : Entries) (surfaces : SurfaceEntries) (policy : Policy) (more : Bool) (octets : List ℕ) → Writes (IfOctets (SameMigrated profile)) (under profile (migrate_command local table surfaces)) policy more octets) (set : (changes : List Change) (policy : Policy) (more : Bool) (octets : List ℕ) → CanChange changes → Writes (SetsKeys profile changes) (under profile (set_command changes)) policy more octets) (filtered : (conditions : List Wanted) (policy : Policy) (more : Bool) (octets : List ℕ) → Writes (IsFiltered profile conditions) (under profile (filter_command conditions)) policy more octets) where
+  of_octets : (Is : List ℕ → List ℕ → Type 0) (command : Command) (policy : Policy) (more : Bool) (octets : List ℕ) → AreOctets octets
+      → Writes (IfOctets Is) (under profile command) policy more octets → Writes Is (under profile command) policy more octets
   of_octets Is command policy more octets small wrote =
-      writes_octets Is command policy more octets (octets_all more octets small (items_of policy more octets).items (stand policy more octets)) wrote
+      writes_octets Is (under profile command) policy more octets (octets_all profile more octets small (items_of profile policy more octets).items (stand policy more octets)) wrote
 
   tabled : (local : Local) (policy : Policy) (outcome : Outcome) (before now : Seen) (t : Both)
-      → IfTabled (migrating local) (Reading policy outcome before now) (AtOnce outcome before now) t → is_broken outcome ≡ false
-      → IfGood (λ tables. LeavesItems (IfOctets SameMigrated) SameMigrated (migrating local tables) policy outcome before now) t
+      → IfTabled (λ tables. under profile (migrating local tables)) (Reading policy outcome before now) (AtOnce outcome before now) t → is_broken outcome ≡ false
+      → IfGood (λ tables. LeavesItems (IfOctets (SameMigrated profile)) (SameMigrated profile) (under profile (migrating local tables)) policy outcome before now) t
   tabled local policy outcome before now (BothGood tables) reading unbroken =
-      leaves (IfOctets SameMigrated) SameMigrated (migrating local tables) policy outcome before now (migrated local tables.parameters tables.surfaces policy)
-      (of_octets SameMigrated (migrating local tables) policy) reading unbroken
+      leaves (IfOctets (SameMigrated profile)) (SameMigrated profile) (under profile (migrating local tables)) policy outcome before now (migrated local tables.parameters tables.surfaces policy)
+      (of_octets (SameMigrated profile) (migrating local tables) policy) reading unbroken
   tabled local policy outcome before now (ParametersRefused refusal) once unbroken = tt
   tabled local policy outcome before now (SurfacesRefused refusal) once unbroken = tt
 
-  pub job_leaves : (job : Job) (policy : Policy) (outcome : Outcome) (before now : Seen) → IsJob job → AnswersWork (work_of job) policy outcome before now → Leaves job policy outcome before now
+  pub job_leaves : (job : Job) (policy : Policy) (outcome : Outcome) (before now : Seen) → IsJob job → AnswersWork (work_under profile job) policy outcome before now → Leaves profile job policy outcome before now
   job_leaves Check policy outcome before now is answers = tt
   job_leaves Listing policy outcome before now is answers = tt
   job_leaves Keys policy outcome before now is answers = tt
@@ -164,14 +165,14 @@ module _ (stand : ItemsStand) (repacked : (target : RepackTarget) (policy : Poli
   job_leaves (Dump places) policy outcome before now is answers = tt
   job_leaves (Values format) policy outcome before now is answers = tt
   job_leaves (Filter conditions) policy outcome before now is reading = λ unbroken.
-      leaves (IsFiltered conditions) (IsFiltered conditions) (filter_command conditions) policy outcome before now (filtered conditions policy) (λ more octets small wrote. wrote) reading unbroken
-  job_leaves (Split out) policy outcome before now is reading = leaves_names out policy outcome before now reading
+      leaves (IsFiltered profile conditions) (IsFiltered profile conditions) (under profile (filter_command conditions)) policy outcome before now (filtered conditions policy) (λ more octets small wrote. wrote) reading unbroken
+  job_leaves (Split out) policy outcome before now is reading = leaves_names profile out policy outcome before now reading
   job_leaves (Set changes) policy outcome before now is reading = λ unbroken.
-      leaves (SetsKeys changes) (SetsKeys changes) (set_command changes) policy outcome before now (λ more octets. set changes policy more octets is.changes_stand)
+      leaves (SetsKeys profile changes) (SetsKeys profile changes) (under profile (set_command changes)) policy outcome before now (λ more octets. set changes policy more octets is.changes_stand)
       (λ more octets small wrote. wrote) reading unbroken
   job_leaves (Repack target) policy outcome before now is reading = λ unbroken.
-      leaves (IfOctets SameValues) SameValues (repack_command target) policy outcome before now (λ more octets. repacked target policy more octets is.target_stands)
-      (of_octets SameValues (repack_command target) policy) reading unbroken
+      leaves (IfOctets (SameValues profile)) (SameValues profile) (under profile (repack_command target)) policy outcome before now (λ more octets. repacked target policy more octets is.target_stands)
+      (of_octets (SameValues profile) (repack_command target) policy) reading unbroken
   job_leaves RepackLeast policy outcome before now is answers = tt
   job_leaves Rescan policy outcome before now is answers = tt
   job_leaves (Crop area) policy outcome before now is answers = tt

@@ -4,8 +4,9 @@ use Rattle.std.specs.List.{concat, flat_map, list_all, range_with_len}
 use Rattle.std.proofs.lemmas.List.{map-append}
 use Rattle.std.proofs.lemmas.List.Elements.{All-nil, All-cons, All-head, All-tail, All-filter, All-append}
 use Rattle.grib_base.specs.Rows.{choose}
+use Rattle.grib_base.specs.declared.profile.Profile.{Profile}
 use Rattle.grib2_sections.specs.Head.{edition}
-use Rattle.grib2_message.specs.Message.{IsMessage}
+use Rattle.grib2_message.specs.Message.{IsMessageUnder}
 use Rattle.grib2_message.specs.Fields.{field_count, column_of}
 use Rattle.grib_keys.specs.declared.wanted.Wanted.{Wanted}
 use Rattle.grib_select.specs.Single.{single_of}
@@ -20,8 +21,8 @@ use Rattle.grib_run_law.specs.Shelved.{IsAlone, columns_here, parts_here, parts_
 use Rattle.grib_run_law.proofs.Accepting.{IsAccepted, OfMessage}
 
 -- what is said of a field that is cut out of a message
-pub record CutsOut (message : List ℕ) (i : ℕ) : Type 0 where
-  pub accepted : IsMessage (single_of message i)
+pub record CutsOut (profile : Profile) (message : List ℕ) (i : ℕ) : Type 0 where
+  pub accepted : IsMessageUnder profile (single_of message i)
   pub one : field_count (single_of message i) ≡ 1
   pub column : column_of (single_of message i) 1 ≡ column_of message i
 
@@ -50,13 +51,13 @@ all_stay p [] is = refl
 all_stay p (x ∷ xs) is =
     ap (λ b. cond b (x ∷ filter p xs) (filter p xs)) (left_true (p x) (list_all p xs) is) ∙ ap (λ ys. x ∷ ys) (all_stay p xs (right_true (p x) (list_all p xs) is))
 
-module _ (law : (message : List ℕ) (i : ℕ) → IsMessage message → 1 ≤ i → i ≤ field_count message → CutsOut message i) where
+module _ (profile : Profile) (law : (message : List ℕ) (i : ℕ) → IsMessageUnder profile message → 1 ≤ i → i ≤ field_count message → CutsOut profile message i) where
   -- ---- fields that are cut out of a message
 
-  own_column : (message : List ℕ) (i : ℕ) → CutsOut message i → columns_of (single_of message i) ≡ column_of message i ∷ []
+  own_column : (message : List ℕ) (i : ℕ) → CutsOut profile message i → columns_of (single_of message i) ≡ column_of message i ∷ []
   own_column message i cut = ap (λ n. map (column_of (single_of message i)) (range_with_len 1 n)) cut.one ∙ ap (λ c. c ∷ []) cut.column
 
-  cut_columns : (message : List ℕ) (fields : List ℕ) → IsMessage message → All (IsField (field_count message)) fields
+  cut_columns : (message : List ℕ) (fields : List ℕ) → IsMessageUnder profile message → All (IsField (field_count message)) fields
       → flat_map columns_of (map (single_of message) fields) ≡ map (column_of message) fields
   cut_columns message [] h all = refl
   cut_columns message (i ∷ fields) h all =
@@ -64,16 +65,16 @@ module _ (law : (message : List ℕ) (i : ℕ) → IsMessage message → 1 ≤ i
       ap (λ xs. xs ++ flat_map columns_of (map (single_of message) fields)) (own_column message i (law message i h is.0 is.1))
       ∙ ap (λ xs. column_of message i ∷ xs) (cut_columns message fields h (All-tail (IsField (field_count message)) i fields all))
 
-  cut_accepted : (message : List ℕ) (fields : List ℕ) → IsMessage message → All (IsField (field_count message)) fields → All IsMessage (map (single_of message) fields)
-  cut_accepted message [] h all = All-nil IsMessage
+  cut_accepted : (message : List ℕ) (fields : List ℕ) → IsMessageUnder profile message → All (IsField (field_count message)) fields → All (IsMessageUnder profile) (map (single_of message) fields)
+  cut_accepted message [] h all = All-nil (IsMessageUnder profile)
   cut_accepted message (i ∷ fields) h all =
       let is = All-head (IsField (field_count message)) i fields all in
-      All-cons IsMessage (single_of message i) (map (single_of message) fields) (law message i h is.0 is.1).accepted
+      All-cons (IsMessageUnder profile) (single_of message i) (map (single_of message) fields) (law message i h is.0 is.1).accepted
       (cut_accepted message fields h (All-tail (IsField (field_count message)) i fields all))
 
   -- ---- the parts of a message
 
-  part_columns : (out : List ℕ) (before : ℕ) (message : List ℕ) (fields : List ℕ) → IsMessage message → All (IsField (field_count message)) fields
+  part_columns : (out : List ℕ) (before : ℕ) (message : List ℕ) (fields : List ℕ) → IsMessageUnder profile message → All (IsField (field_count message)) fields
       → map (λ (part : Part). column_of part.octets 1) (map (part_of out before message) fields) ≡ map (column_of message) fields
   part_columns out before message [] h all = refl
   part_columns out before message (i ∷ fields) h all =
@@ -81,44 +82,44 @@ module _ (law : (message : List ℕ) (i : ℕ) → IsMessage message → 1 ≤ i
       ap (λ c. c ∷ map (λ (part : Part). column_of part.octets 1) (map (part_of out before message) fields)) (law message i h is.0 is.1).column
       ∙ ap (λ xs. column_of message i ∷ xs) (part_columns out before message fields h (All-tail (IsField (field_count message)) i fields all))
 
-  parts_alone : (out : List ℕ) (before : ℕ) (message : List ℕ) (fields : List ℕ) → IsMessage message → All (IsField (field_count message)) fields
-      → All IsAlone (map (part_of out before message) fields)
-  parts_alone out before message [] h all = All-nil IsAlone
+  parts_alone : (out : List ℕ) (before : ℕ) (message : List ℕ) (fields : List ℕ) → IsMessageUnder profile message → All (IsField (field_count message)) fields
+      → All (IsAlone profile) (map (part_of out before message) fields)
+  parts_alone out before message [] h all = All-nil (IsAlone profile)
   parts_alone out before message (i ∷ fields) h all =
       let is = All-head (IsField (field_count message)) i fields all in
       let cut = law message i h is.0 is.1 in
-      All-cons IsAlone (part_of out before message i) (map (part_of out before message) fields) (record { accepted = cut.accepted; one_field = cut.one })
+      All-cons (IsAlone profile) (part_of out before message i) (map (part_of out before message) fields) (record { accepted = cut.accepted; one_field = cut.one })
       (parts_alone out before message fields h (All-tail (IsField (field_count message)) i fields all))
 
-  here_alone : (out : List ℕ) (b : Bool) (before : ℕ) (message : List ℕ) → (b ≡ false → IsMessage message)
-      → All IsAlone (choose b (λ _. []) (λ _. parts_of out before message))
-  here_alone out true before message accepted = All-nil IsAlone
+  here_alone : (out : List ℕ) (b : Bool) (before : ℕ) (message : List ℕ) → (b ≡ false → IsMessageUnder profile message)
+      → All (IsAlone profile) (choose b (λ _. []) (λ _. parts_of out before message))
+  here_alone out true before message accepted = All-nil (IsAlone profile)
   here_alone out false before message accepted =
       parts_alone out before message (range_with_len 1 (field_count message)) (accepted refl) (fields_of_message message)
 
-  pub all_alone : (out : List ℕ) (before : ℕ) (items : List Item) → All (OfMessage IsAccepted) items → All IsAlone (parts_among out before items)
-  all_alone out before [] all = All-nil IsAlone
-  all_alone out before (Refused refused ∷ later) all = all_alone out before later (All-tail (OfMessage IsAccepted) (Refused refused) later all)
+  pub all_alone : (out : List ℕ) (before : ℕ) (items : List Item) → All (OfMessage (IsAccepted profile)) items → All (IsAlone profile) (parts_among out before items)
+  all_alone out before [] all = All-nil (IsAlone profile)
+  all_alone out before (Refused refused ∷ later) all = all_alone out before later (All-tail (OfMessage (IsAccepted profile)) (Refused refused) later all)
   all_alone out before (Accepted found ∷ later) all =
-      All-append IsAlone (parts_here out before found.octets) (parts_among out (before + fields_of found.octets) later)
-      (here_alone out (edition found.octets == 1) before found.octets (All-head (OfMessage IsAccepted) (Accepted found) later all).second)
-      (all_alone out (before + fields_of found.octets) later (All-tail (OfMessage IsAccepted) (Accepted found) later all))
+      All-append (IsAlone profile) (parts_here out before found.octets) (parts_among out (before + fields_of found.octets) later)
+      (here_alone out (edition found.octets == 1) before found.octets (All-head (OfMessage (IsAccepted profile)) (Accepted found) later all).second)
+      (all_alone out (before + fields_of found.octets) later (All-tail (OfMessage (IsAccepted profile)) (Accepted found) later all))
 
-  here_columns : (out : List ℕ) (b : Bool) (before : ℕ) (message : List ℕ) → (b ≡ false → IsMessage message)
+  here_columns : (out : List ℕ) (b : Bool) (before : ℕ) (message : List ℕ) → (b ≡ false → IsMessageUnder profile message)
       → map (λ (part : Part). column_of part.octets 1) (choose b (λ _. []) (λ _. parts_of out before message)) ≡ choose b (λ _. []) (λ _. columns_of message)
   here_columns out true before message accepted = refl
   here_columns out false before message accepted =
       part_columns out before message (range_with_len 1 (field_count message)) (accepted refl) (fields_of_message message)
 
-  pub all_columns : (out : List ℕ) (before : ℕ) (items : List Item) → All (OfMessage IsAccepted) items
+  pub all_columns : (out : List ℕ) (before : ℕ) (items : List Item) → All (OfMessage (IsAccepted profile)) items
       → map (λ (part : Part). column_of part.octets 1) (parts_among out before items) ≡ flat_map columns_here items
   all_columns out before [] all = refl
-  all_columns out before (Refused refused ∷ later) all = all_columns out before later (All-tail (OfMessage IsAccepted) (Refused refused) later all)
+  all_columns out before (Refused refused ∷ later) all = all_columns out before later (All-tail (OfMessage (IsAccepted profile)) (Refused refused) later all)
   all_columns out before (Accepted found ∷ later) all =
       map-append (λ (part : Part). column_of part.octets 1) (parts_here out before found.octets) (parts_among out (before + fields_of found.octets) later)
       ∙ (ap (λ xs. xs ++ map (λ (part : Part). column_of part.octets 1) (parts_among out (before + fields_of found.octets) later))
-      (here_columns out (edition found.octets == 1) before found.octets (All-head (OfMessage IsAccepted) (Accepted found) later all).second)
-      ∙ ap (λ xs. columns_here (Accepted found) ++ xs) (all_columns out (before + fields_of found.octets) later (All-tail (OfMessage IsAccepted) (Accepted found) later all)))
+      (here_columns out (edition found.octets == 1) before found.octets (All-head (OfMessage (IsAccepted profile)) (Accepted found) later all).second)
+      ∙ ap (λ xs. columns_here (Accepted found) ++ xs) (all_columns out (before + fields_of found.octets) later (All-tail (OfMessage (IsAccepted profile)) (Accepted found) later all)))
 
   -- ---- what is written of a message that is filtered
 
@@ -146,9 +147,9 @@ module _ (law : (message : List ℕ) (i : ℕ) → IsMessage message → 1 ≤ i
     by_bool true message = sym (append-nil message)
     by_bool false message = texts_picked message (field_count message) 1
 
-    pub picked_bool : (b : Bool) (message : List ℕ) → IsMessage message → all_fulfil conditions message ≡ b → IsPicked conditions message (picked_by b message)
+    pub picked_bool : (b : Bool) (message : List ℕ) → IsMessageUnder profile message → all_fulfil conditions message ≡ b → IsPicked profile conditions message (picked_by b message)
     picked_bool true message h is = record {
-      accepted = All-cons IsMessage message [] h (All-nil IsMessage);
+      accepted = All-cons (IsMessageUnder profile) message [] h (All-nil (IsMessageUnder profile));
       columns = append-nil (columns_of message)
           ∙ sym (ap (map (column_of message)) (all_stay (λ i. fulfils_all message i conditions) (range_with_len 1 (field_count message)) is));
     }

@@ -55,7 +55,7 @@ module _ (command : Command) (ends : (place : Place) (message : List ℕ) (outco
 
   within_not : (input : List ℕ) → NotDone (answer_within (2 ^ 40) (plan_by command nothing) input).result
   within_not input =
-      let found = items_answered nothing input in
+      let found = items_answered command.profile nothing input in
       subst (λ (answer : Answered). NotDone answer.result) (sym (answer_by command nothing input)) (answers_not no_counts found.items found.end)
 
 -- ---- the answer

@@ -6,10 +6,11 @@ use Rattle.std.proofs.lemmas.List.Concat.{flat_map-append}
 use Rattle.std.proofs.lemmas.List.Elements.{All-nil, All-cons, All-head, All-tail}
 use Rattle.grib_base.specs.declared.fault.Fault.{Fault}
 use Rattle.grib_base.specs.Rows.{choose}
+use Rattle.grib_base.specs.declared.profile.Profile.{Profile}
 use Rattle.grib_reasons.specs.declared.cause.Cause.TheVariants.{EditionOne}
 use Rattle.grib_io.specs.Shelves.{Held}
 use Rattle.grib2_sections.specs.Head.{edition}
-use Rattle.grib2_message.specs.Message.{IsMessage}
+use Rattle.grib2_message.specs.Message.{IsMessageUnder}
 use Rattle.grib2_message.specs.Fields.{field_count}
 use Rattle.grib_stream.specs.Acts.{Act, Writes, Makes, Adds, World, world, writes, held_after, Did, DidFront}
 use Rattle.grib_stream.specs.Outcomes.{is_truncated}
@@ -21,8 +22,9 @@ use Rattle.grib_items.specs.Deeds.{Deeds, deeds}
 use Rattle.grib_items.specs.Items.{Passed, Item, Accepted, Refused, End, Over, Refusing, Open, Items, items_from, on_next}
 use Rattle.grib_items.specs.Run.{answer_of}
 use Rattle.grib_items.specs.Next.{Unknown, Refuses, next_judged, next_passed, passed}
-use Rattle.grib_command.specs.Command.{task}
-use Rattle.grib_command.specs.Judging.{judge, fields_of}
+use Rattle.grib_command.specs.Command.{task, under}
+use Rattle.grib_command.specs.LawfulCommands.{under_lawful}
+use Rattle.grib_command.specs.Judging.{judge_under, fields_of}
 use Rattle.grib_command.specs.Texts.{texts}
 use Rattle.grib_edit.specs.Parts.{Part, part_name, part_of, parts_of, adds, puts, puts_all, octets_within}
 use Rattle.grib_edit.specs.Splitting.{split_command, split_lawful}
@@ -106,7 +108,7 @@ here_is : (out : List ℕ) (before : ℕ) (message : List ℕ) (rest : List Part
     → choose b (λ _. []) (λ _. parts_of out before message) ++ rest ≡ parts_here out before message ++ rest
 here_is out before message rest b is = ap (λ c. choose c (λ _. []) (λ _. parts_of out before message) ++ rest) (sym is)
 
-module _ (out : List ℕ) (policy : Policy) where
+module _ (profile : Profile) (out : List ℕ) (policy : Policy) where
   -- where a message of edition 2 is the next
   other_then : (counts : Counts) (found : Found) (reached_later : List Item) (later : Counts → Answered) → (edition found.octets == 1) ≡ false
       → ((counts : Counts) → Puts (parts_among out counts.fields reached_later) (later counts))
@@ -153,33 +155,33 @@ module _ (out : List ℕ) (policy : Policy) where
   none_reached before None = refl
   none_reached before (Some instead) = refl
 
-  acts_among : (counts : Counts) (items : List Item) (end : End) → Puts (parts_among out counts.fields (reached policy.kept items)) (answers (task (split_command out)) texts policy counts items end)
+  acts_among : (counts : Counts) (items : List Item) (end : End) → Puts (parts_among out counts.fields (reached policy.kept items)) (answers (task (under profile (split_command out))) texts policy counts items end)
   acts_among counts [] (Over skipped) = record { acts = none_reached counts.fields policy.kept; ending = refl }
   acts_among counts [] (Refusing fault) = record { acts = none_reached counts.fields policy.kept; ending = refl }
   acts_among counts [] Open = record { acts = none_reached counts.fields policy.kept; ending = refl }
   acts_among counts (Accepted found ∷ items) end =
-      message_then policy.kept (edition found.octets == 1) counts found items (λ counts. answers (task (split_command out)) texts policy counts items end) refl
+      message_then policy.kept (edition found.octets == 1) counts found items (λ counts. answers (task (under profile (split_command out))) texts policy counts items end) refl
       (λ counts. acts_among counts items end)
   acts_among counts (Refused refused ∷ items) end =
       let octets = refused_instead policy.refused refused.octets in
       let next = one_refused counts (length octets) in
       let line = texts.refused (is_copied policy.refused refused.octets) (place_by counts refused.before) refused.fault in
-      subst (λ parts. Puts parts (after (deeds (writes octets) (line ∷ [])) (answers (task (split_command out)) texts policy next items end)))
+      subst (λ parts. Puts parts (after (deeds (writes octets) (line ∷ [])) (answers (task (under profile (split_command out))) texts policy next items end)))
       (refused_then counts.fields policy.kept refused items)
-      (puts_then [] (parts_among out counts.fields (reached policy.kept items)) (deeds (writes octets) (line ∷ [])) (answers (task (split_command out)) texts policy next items end)
+      (puts_then [] (parts_among out counts.fields (reached policy.kept items)) (deeds (writes octets) (line ∷ [])) (answers (task (under profile (split_command out))) texts policy next items end)
       (none_written octets) (acts_among next items end))
 
   -- what is done for octets of which more may follow, before their end
-  acts_read : (octets : List ℕ) → on_names ((answer_of (plan_by (split_command out) policy) true octets).deeds.acts ++ []) ≡ puts_all (parts_within out policy true octets)
+  acts_read : (octets : List ℕ) → on_names ((answer_of (plan_by (under profile (split_command out)) policy) true octets).deeds.acts ++ []) ≡ puts_all (parts_within profile out policy true octets)
   acts_read octets =
-      let found = items_of policy true octets in
-      ap on_names (append-nil (answers (task (split_command out)) texts policy no_counts found.items found.end).deeds.acts) ∙ (acts_among no_counts found.items found.end).acts
+      let found = items_of profile policy true octets in
+      ap on_names (append-nil (answers (task (under profile (split_command out))) texts policy no_counts found.items found.end).deeds.acts) ∙ (acts_among no_counts found.items found.end).acts
 
   -- what is done for octets, of which more may follow or not
-  acts_done : (more : Bool) (octets : List ℕ) → on_names (stated_of (split_command out) policy more octets).acts ≡ puts_all (parts_within out policy more octets)
+  acts_done : (more : Bool) (octets : List ℕ) → on_names (stated_of (under profile (split_command out)) policy more octets).acts ≡ puts_all (parts_within profile out policy more octets)
   acts_done more octets =
-      let found = items_of policy more octets in
-      let answer = answers (task (split_command out)) texts policy no_counts found.items found.end in
+      let found = items_of profile policy more octets in
+      let answer = answers (task (under profile (split_command out))) texts policy no_counts found.items found.end in
       let own = acts_among no_counts found.items found.end in
       ap (λ ending. on_names (answer.deeds.acts ++ ending)) own.ending ∙ (ap on_names (append-nil answer.deeds.acts) ∙ own.acts)
 
@@ -261,7 +263,7 @@ few_reached : (instead : Option Instead) (items : List Item) → fields_among (r
 few_reached None items = few_first items
 few_reached (Some instead) items = omega arith
 
-module _ (place skipped n : ℕ) (octets : List ℕ) (size : n + 1 ≡ length octets) (go : ℕ → ℕ → Items) (later : (inside skipped : ℕ) → fields_among (go inside skipped).items ≤ n - inside) where
+module _ (profile : Profile) (place skipped n : ℕ) (octets : List ℕ) (size : n + 1 ≡ length octets) (go : ℕ → ℕ → Items) (later : (inside skipped : ℕ) → fields_among (go inside skipped).items ≤ n - inside) where
   few_refused : (waits passes : Bool) (fault : Fault) (far : Option ℕ)
       → fields_among (on_next (cond waits Unknown (cond passes (next_passed fault far) (Refuses fault))) place skipped octets go).items ≤ length octets
   unfolding fields_among
@@ -270,10 +272,10 @@ module _ (place skipped n : ℕ) (octets : List ℕ) (size : n + 1 ≡ length oc
   few_refused false true fault None = omega arith
   few_refused false true fault (Some octets_passed) = omega (arith, later (octets_passed - 1) (skipped + octets_passed), size)
 
-  few_judged : (passes more : Bool) (j : Judgement) → judge octets ≡ j → fields_among (on_next (next_judged passes more octets j) place skipped octets go).items ≤ length octets
+  few_judged : (passes more : Bool) (j : Judgement) → judge_under profile octets ≡ j → fields_among (on_next (next_judged passes more octets j) place skipped octets go).items ≤ length octets
   unfolding fields_among
   few_judged passes more (Message total) is =
-      let law = lawful (split_command []) (split_lawful []) in
+      let law = lawful (under profile (split_command [])) (under_lawful profile (split_command []) (split_lawful [])) in
       let few : fields_of (take total octets) ≤ total = law.few_fields octets total is in
       let least : 4 ≤ total = law.least octets total is in
       let there : total ≤ length octets = law.there octets total is in
@@ -285,41 +287,41 @@ few_begun : (b : Bool) (x y : Items) (n : ℕ) → (b ≡ true → fields_among 
 few_begun true x y n first second = first refl
 few_begun false x y n first second = second
 
-few_from : (passes more : Bool) (inside place skipped : ℕ) (octets : List ℕ) → fields_among (items_from judge passes more inside place skipped octets).items ≤ length octets - inside
+few_from : (profile : Profile) (passes more : Bool) (inside place skipped : ℕ) (octets : List ℕ) → fields_among (items_from (judge_under profile) passes more inside place skipped octets).items ≤ length octets - inside
 unfolding fields_among
-few_from passes more zero place skipped [] = omega arith
-few_from passes more (suc inside) place skipped [] = omega arith
-few_from passes more (suc inside) place skipped (octet ∷ octets) = let few = few_from passes more inside (place + 1) skipped octets in omega arith
-few_from passes more zero place skipped (octet ∷ octets) =
+few_from profile passes more zero place skipped [] = omega arith
+few_from profile passes more (suc inside) place skipped [] = omega arith
+few_from profile passes more (suc inside) place skipped (octet ∷ octets) = let few = few_from profile passes more inside (place + 1) skipped octets in omega arith
+few_from profile passes more zero place skipped (octet ∷ octets) =
     few_begun (begins (octet ∷ octets)) _ _ (length (octet ∷ octets) - 0)
-    (λ begun. let few = few_judged place skipped (length octets) (octet ∷ octets) (omega arith) (λ inside skipped. items_from judge passes more inside (place + 1) skipped octets)
-    (λ inside skipped. few_from passes more inside (place + 1) skipped octets) passes more (judge (octet ∷ octets)) refl in omega arith)
-    (let few = few_from passes more zero (place + 1) (skipped + 1) octets in omega arith)
+    (λ begun. let few = few_judged profile place skipped (length octets) (octet ∷ octets) (omega arith) (λ inside skipped. items_from (judge_under profile) passes more inside (place + 1) skipped octets)
+    (λ inside skipped. few_from profile passes more inside (place + 1) skipped octets) passes more (judge_under profile (octet ∷ octets)) refl in omega arith)
+    (let few = few_from profile passes more zero (place + 1) (skipped + 1) octets in omega arith)
 
-distinct : (out : List ℕ) (policy : Policy) (more : Bool) (input : List ℕ) → length input < 2 ^ 64 → Distinct (parts_within out policy more input)
-distinct out policy more input short =
-    let found : List Item = (items_of policy more input).items in
-    let few : fields_among found ≤ length input - 0 = few_from (passes policy) more 0 0 0 input in
+distinct : (profile : Profile) (out : List ℕ) (policy : Policy) (more : Bool) (input : List ℕ) → length input < 2 ^ 64 → Distinct (parts_within profile out policy more input)
+distinct profile out policy more input short =
+    let found : List Item = (items_of profile policy more input).items in
+    let few : fields_among found ≤ length input - 0 = few_from profile (passes policy) more 0 0 0 input in
     let fewer : fields_among (reached policy.kept found) ≤ fields_among found = few_reached policy.kept found in
     distinct_among out 0 (reached policy.kept found) (omega arith)
 
 -- ---- the shelf
 
-pub stands_first : (out : List ℕ) (policy : Policy) (more : Bool) (octets : List ℕ) (before now : World) → length octets < 2 ^ 64
-    → DidFront before now (stated_of (split_command out) policy more octets).acts
-    → OfNames before.names now.names (λ held held_now. (count : ℕ) × StandFirst (parts_within out policy more octets) held held_now count)
-stands_first out policy more octets before now short did =
-    names_first (parts_within out policy more octets) (distinct out policy more octets short) _ (acts_done out policy more octets) before.output now.output before.names now.names did
+pub stands_first : (profile : Profile) (out : List ℕ) (policy : Policy) (more : Bool) (octets : List ℕ) (before now : World) → length octets < 2 ^ 64
+    → DidFront before now (stated_of (under profile (split_command out)) policy more octets).acts
+    → OfNames before.names now.names (λ held held_now. (count : ℕ) × StandFirst (parts_within profile out policy more octets) held held_now count)
+stands_first profile out policy more octets before now short did =
+    names_first (parts_within profile out policy more octets) (distinct profile out policy more octets short) _ (acts_done profile out policy more octets) before.output now.output before.names now.names did
 
-pub stands_all : (out : List ℕ) (policy : Policy) (more : Bool) (octets : List ℕ) (before now : World) → length octets < 2 ^ 64
-    → Did before now (stated_of (split_command out) policy more octets).acts → OfNames before.names now.names (StandAll (parts_within out policy more octets))
-stands_all out policy more octets before now short did =
-    names_all (parts_within out policy more octets) (distinct out policy more octets short) _ (acts_done out policy more octets) before.output now.output before.names now.names did
+pub stands_all : (profile : Profile) (out : List ℕ) (policy : Policy) (more : Bool) (octets : List ℕ) (before now : World) → length octets < 2 ^ 64
+    → Did before now (stated_of (under profile (split_command out)) policy more octets).acts → OfNames before.names now.names (StandAll (parts_within profile out policy more octets))
+stands_all profile out policy more octets before now short did =
+    names_all (parts_within profile out policy more octets) (distinct profile out policy more octets short) _ (acts_done profile out policy more octets) before.output now.output before.names now.names did
 
-pub read_all : (out : List ℕ) (policy : Policy) (octets : List ℕ) (before now : World) → length octets < 2 ^ 64
-    → Did before now ((answer_of (plan_by (split_command out) policy) true octets).deeds.acts ++ []) → OfNames before.names now.names (StandAll (parts_within out policy true octets))
-read_all out policy octets before now short did =
-    names_all (parts_within out policy true octets) (distinct out policy true octets short) _ (acts_read out policy octets) before.output now.output before.names now.names did
+pub read_all : (profile : Profile) (out : List ℕ) (policy : Policy) (octets : List ℕ) (before now : World) → length octets < 2 ^ 64
+    → Did before now ((answer_of (plan_by (under profile (split_command out)) policy) true octets).deeds.acts ++ []) → OfNames before.names now.names (StandAll (parts_within profile out policy true octets))
+read_all profile out policy octets before now short did =
+    names_all (parts_within profile out policy true octets) (distinct profile out policy true octets short) _ (acts_read profile out policy octets) before.output now.output before.names now.names did
 
 -- ---- the fields of the parts
 
@@ -337,8 +339,8 @@ reached_all : (P : Item → Type 0) (instead : Option Instead) (items : List Ite
 reached_all P None items all = before_all P items all
 reached_all P (Some instead) items all = all
 
-pub splits : ((message : List ℕ) (i : ℕ) → IsMessage message → 1 ≤ i → i ≤ field_count message → CutsOut message i) → (out : List ℕ) (policy : Policy) (more : Bool) (octets : List ℕ)
-    → All (OfMessage IsAccepted) (items_of policy more octets).items → SplitsFields out policy more octets
-splits law out policy more octets accepted =
-    let all = reached_all (OfMessage IsAccepted) policy.kept (items_of policy more octets).items accepted in
-    record { alone = all_alone law out 0 (items_reached policy more octets) all; columns = all_columns law out 0 (items_reached policy more octets) all }
+pub splits : (profile : Profile) → ((message : List ℕ) (i : ℕ) → IsMessageUnder profile message → 1 ≤ i → i ≤ field_count message → CutsOut profile message i) → (out : List ℕ) (policy : Policy) (more : Bool) (octets : List ℕ)
+    → All (OfMessage (IsAccepted profile)) (items_of profile policy more octets).items → SplitsFields profile out policy more octets
+splits profile law out policy more octets accepted =
+    let all = reached_all (OfMessage (IsAccepted profile)) policy.kept (items_of profile policy more octets).items accepted in
+    record { alone = all_alone profile law out 0 (items_reached profile policy more octets) all; columns = all_columns profile law out 0 (items_reached profile policy more octets) all }

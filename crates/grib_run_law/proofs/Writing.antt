@@ -59,7 +59,7 @@ module _ (Is : List ℕ → List ℕ → Type 0) (command : Command) (policy : P
       message_then found items (deeds (writes (instead_of instead found.octets)) (texts.kept place (record { message = place.message; cause = kept.0 }) ∷ [])) _
       (inr (subst (λ k. StandsFor command k found.octets (written (writes (instead_of instead found.octets)))) (sym is) (kept, written_of (instead_of instead found.octets)))) (rest _)
 
-  message_by : (counts : Counts) (place : Place) (fields : ℕ) (found : Found) (items : List Item) (later : Counts → Answered) → IsAccepted found
+  message_by : (counts : Counts) (place : Place) (fields : ℕ) (found : Found) (items : List Item) (later : Counts → Answered) → IsAccepted command.profile found
       → IsFixed (λ place. given command place found.octets) → ((counts : Counts) → Wrote items (later counts))
       → Wrote (Accepted found ∷ items)
       (on_comes (on_given texts policy.kept counts place fields found.octets (given command place found.octets)) (λ done counts. after done (later counts)))
@@ -70,16 +70,16 @@ module _ (Is : List ℕ → List ℕ → Type 0) (command : Command) (policy : P
       subst (λ g. Wrote (Accepted found ∷ items) (on_comes (on_given texts policy.kept counts place fields found.octets g) (λ done counts. after done (later counts))))
       (sym (always place)) (kept_then policy.kept counts place fields found (cause, always) items later refl rest)
 
-  answers_written : (counts : Counts) (items : List Item) (end : End) → All (OfMessage IsAccepted) items → Wrote items (answers (task command) texts policy counts items end)
+  answers_written : (counts : Counts) (items : List Item) (end : End) → All (OfMessage (IsAccepted command.profile)) items → Wrote items (answers (task command) texts policy counts items end)
   answers_written counts [] end all = at_end counts end
   answers_written counts (Accepted found ∷ items) end all =
       message_by counts (place_by counts found.before) (fields_of found.octets) found items (λ counts. answers (task command) texts policy counts items end)
-      (All-head (OfMessage IsAccepted) (Accepted found) items all) (fixed found.octets)
-      (λ counts. answers_written counts items end (All-tail (OfMessage IsAccepted) (Accepted found) items all))
+      (All-head (OfMessage (IsAccepted command.profile)) (Accepted found) items all) (fixed found.octets)
+      (λ counts. answers_written counts items end (All-tail (OfMessage (IsAccepted command.profile)) (Accepted found) items all))
   answers_written counts (Refused refused ∷ items) end all =
       let octets = refused_instead policy.refused refused.octets in
       let counts = one_refused counts (length octets) in
-      let rest = answers_written counts items end (All-tail (OfMessage IsAccepted) (Refused refused) items all) in
+      let rest = answers_written counts items end (All-tail (OfMessage (IsAccepted command.profile)) (Refused refused) items all) in
       record {
         outputs = octets ∷ rest.outputs;
         joined = written_join (writes octets) (answers (task command) texts policy counts items end).deeds.acts
@@ -89,9 +89,9 @@ module _ (Is : List ℕ → List ℕ → Type 0) (command : Command) (policy : P
         all = λ no. omega (arith, rest.all no);
       }
 
-  pub writes_items : (more : Bool) (octets : List ℕ) → All (OfMessage IsAccepted) (items_of policy more octets).items → Writes Is command policy more octets
+  pub writes_items : (more : Bool) (octets : List ℕ) → All (OfMessage (IsAccepted command.profile)) (items_of command.profile policy more octets).items → Writes Is command policy more octets
   writes_items more octets all =
-      let found = items_of policy more octets in
+      let found = items_of command.profile policy more octets in
       let wrote = answers_written no_counts found.items found.end all in
       let acts = (answers (task command) texts policy no_counts found.items found.end).deeds.acts in
       record {
@@ -114,11 +114,11 @@ all_octets Is command policy (Accepted found ∷ items) (octets ∷ outputs) sma
 all_octets Is command policy (Refused refused ∷ items) (octets ∷ outputs) small are =
     (are.0, all_octets Is command policy items outputs (All-tail (OfMessage IsOfOctets) (Refused refused) items small) are.1)
 
-pub writes_octets : (Is : List ℕ → List ℕ → Type 0) (command : Command) (policy : Policy) (more : Bool) (octets : List ℕ) → All (OfMessage IsOfOctets) (items_of policy more octets).items
+pub writes_octets : (Is : List ℕ → List ℕ → Type 0) (command : Command) (policy : Policy) (more : Bool) (octets : List ℕ) → All (OfMessage IsOfOctets) (items_of command.profile policy more octets).items
     → Writes (IfOctets Is) command policy more octets → Writes Is command policy more octets
 writes_octets Is command policy more octets small wrote = record {
   outputs = wrote.outputs;
   joined = wrote.joined;
-  are = all_octets Is command policy (items_of policy more octets).items wrote.outputs small wrote.are;
+  are = all_octets Is command policy (items_of command.profile policy more octets).items wrote.outputs small wrote.are;
   all = wrote.all;
 }

@@ -1,7 +1,8 @@
 -- Inputs whose messages are all in the grammar and all answered.
 use Rattle.std.specs.Prelude.{◌≡◌, ◌⊎◌, ℕ, List, [], ◌∷◌, ◌++◌, length, All}
+use Rattle.grib_base.specs.declared.profile.Profile.{Profile}
 use Rattle.grib1_sections.specs.Message.{IsMessage1}
-use Rattle.grib2_message.specs.Message.{IsMessage}
+use Rattle.grib2_message.specs.Message.{IsMessageUnder}
 use Rattle.grib_table.specs.declared.both.Tables.{Tables}
 use Rattle.grib_table.specs.Both.{BothGood, Texts, both}
 use Rattle.grib_stream.specs.Searching.{Markless}
@@ -13,15 +14,15 @@ pub record Piece : Type 0 where
   pub between : List ℕ
   pub message : List ℕ
 
--- octets are one message of the grammar of their edition
-abbrev pub IsInGrammar : List ℕ → Type 0
-IsInGrammar message = IsMessage1 message ⊎ IsMessage message
+-- octets are one message of the grammar of their edition, that of edition 2 by a profile
+abbrev pub IsInGrammar : Profile → List ℕ → Type 0
+IsInGrammar profile message = IsMessage1 message ⊎ IsMessageUnder profile message
 
 -- an input consists of these messages; none begins in the octets before, between and after them
-abbrev pub IsMadeOf : List Piece → List ℕ → Type 0
-IsMadeOf [] input = Markless (length input) input
-IsMadeOf (piece ∷ pieces) input =
-    (rest : List ℕ) × (input ≡ piece.between ++ (piece.message ++ rest)) × Markless (length piece.between) input × IsInGrammar piece.message × IsMadeOf pieces rest
+abbrev pub IsMadeOf : Profile → List Piece → List ℕ → Type 0
+IsMadeOf profile [] input = Markless (length input) input
+IsMadeOf profile (piece ∷ pieces) input =
+    (rest : List ℕ) × (input ≡ piece.between ++ (piece.message ++ rest)) × Markless (length piece.between) input × IsInGrammar profile piece.message × IsMadeOf profile pieces rest
 
 -- each message has a result, by the tables where they are read, which are good
 abbrev pub HaveResults : Work → Texts → List Piece → Type 0

@@ -1,6 +1,7 @@
 -- What a run leaves, in the sentences of its users. Of a device that does not tell what it holds, nothing is said.
 use Rattle.std.specs.Prelude.{◌≡◌, ℕ, ◌^◌, ◌≤◌, true, false, List, length, IfSome}
 use Rattle.std.specs.Io.KnownBytes.{Appends}
+use Rattle.grib_base.specs.declared.profile.Profile.{Profile}
 use Rattle.grib_table.specs.declared.both.Tables.{Tables}
 use Rattle.grib_table.specs.Both.{Both, BothGood, ParametersRefused, SurfacesRefused}
 use Rattle.grib_stream.specs.declared.outcome.Outcome.{Outcome}
@@ -9,7 +10,7 @@ use Rattle.grib_items.specs.declared.policy.Policy.{Policy}
 use Rattle.grib_items.specs.Laws.{is_whole}
 use Rattle.grib_command.specs.declared.job.Job.{Job}
 use Rattle.grib_command.specs.declared.job.Job.TheVariants.{Filter, Split, Set, Repack, Migrate}
-use Rattle.grib_command.specs.Command.{Command}
+use Rattle.grib_command.specs.Command.{Command, under}
 use Rattle.grib_edit.specs.Filtering.{filter_command}
 use Rattle.grib_edit.specs.Repacking.{repack_command}
 use Rattle.grib_edit.specs.Setting.{set_command}
@@ -26,7 +27,7 @@ use Rattle.grib_run_law.specs.Written.{WritesItems}
 pub record AppendsItems (Is : List ℕ → List ℕ → Type 0) (command : Command) (policy : Policy) (outcome : Outcome) (before now : Seen) (input : List ℕ) : Type 0 where
   pub octets : List ℕ
   pub appended : Appends before.output now.output octets
-  pub written : WritesItems Is command policy outcome (items_answered policy input).items octets
+  pub written : WritesItems Is command policy outcome (items_answered command.profile policy input).items octets
   pub whole : is_whole outcome ≡ true → length input ≤ 2 ^ 40
 
 -- This was appended by what was left of the input, where that is told, with what `Told` says of a message, and by the
@@ -44,19 +45,19 @@ IfGood P (SurfacesRefused refusal) = Unit {0}
 -- What is written for messages where neither a device nor memory ended the run, and for `split` what stands on the shelf,
 -- however it ended. `repack` and `migrate` read numbers: by what an input tells this is said of messages whose octets are
 -- below 256, and all that are taken are. Of the other jobs nothing is said here.
-abbrev pub Leaves : Job → Policy → Outcome → Seen → Seen → Type 0
-Leaves (Filter conditions) policy outcome before now =
+abbrev pub Leaves : Profile → Job → Policy → Outcome → Seen → Seen → Type 0
+Leaves profile (Filter conditions) policy outcome before now =
     is_broken outcome ≡ false
-    → LeavesItems (IsFiltered conditions) (IsFiltered conditions) (filter_command conditions) policy outcome before now
-Leaves (Set changes) policy outcome before now =
+    → LeavesItems (IsFiltered profile conditions) (IsFiltered profile conditions) (under profile (filter_command conditions)) policy outcome before now
+Leaves profile (Set changes) policy outcome before now =
     is_broken outcome ≡ false
-    → LeavesItems (SetsKeys changes) (SetsKeys changes) (set_command changes) policy outcome before now
-Leaves (Repack target) policy outcome before now =
+    → LeavesItems (SetsKeys profile changes) (SetsKeys profile changes) (under profile (set_command changes)) policy outcome before now
+Leaves profile (Repack target) policy outcome before now =
     is_broken outcome ≡ false
-    → LeavesItems (IfOctets SameValues) SameValues (repack_command target) policy outcome before now
-Leaves (Migrate params surfaces local) policy outcome before now =
+    → LeavesItems (IfOctets (SameValues profile)) (SameValues profile) (under profile (repack_command target)) policy outcome before now
+Leaves profile (Migrate params surfaces local) policy outcome before now =
     is_broken outcome ≡ false
     → ByTables before.names params surfaces
-    (IfGood (λ tables. LeavesItems (IfOctets SameMigrated) SameMigrated (migrating local tables) policy outcome before now))
-Leaves (Split out) policy outcome before now = LeavesNames out policy outcome before now
-Leaves job policy outcome before now = Unit {0}
+    (IfGood (λ tables. LeavesItems (IfOctets (SameMigrated profile)) (SameMigrated profile) (under profile (migrating local tables)) policy outcome before now))
+Leaves profile (Split out) policy outcome before now = LeavesNames profile out policy outcome before now
+Leaves profile job policy outcome before now = Unit {0}

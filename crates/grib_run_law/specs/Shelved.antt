@@ -3,10 +3,11 @@ use Rattle.std.specs.Prelude.{◌≡◌, ◌≢◌, ℕ, ◌+◌, ◌^◌, ◌==
 use Rattle.std.specs.List.{flat_map}
 use Rattle.std.specs.declared.option.Option.{Option}
 use Rattle.grib_base.specs.Rows.{choose}
+use Rattle.grib_base.specs.declared.profile.Profile.{Profile}
 use Rattle.grib_io.specs.Shelves.{Held}
 use Rattle.grib_packing.specs.declared.column.Column.{Column}
 use Rattle.grib2_sections.specs.Head.{edition}
-use Rattle.grib2_message.specs.Message.{IsMessage}
+use Rattle.grib2_message.specs.Message.{IsMessageUnder}
 use Rattle.grib2_message.specs.Fields.{field_count, column_of}
 use Rattle.grib_stream.specs.declared.outcome.Outcome.{Outcome}
 use Rattle.grib_stream.specs.declared.outcome.Outcome.TheVariants.{ReadFault}
@@ -47,20 +48,20 @@ parts_among out before (Accepted found ∷ later) =
     parts_here out before found.octets ++ parts_among out (before + fields_of found.octets) later
 
 -- the items of octets that are answered, where more octets may follow or not
-abbrev pub items_reached : Policy → Bool → List ℕ → List Item
-items_reached policy more octets = reached policy.kept (items_of policy more octets).items
+abbrev pub items_reached : Profile → Policy → Bool → List ℕ → List Item
+items_reached profile policy more octets = reached policy.kept (items_of profile policy more octets).items
 
 -- the parts of their messages
-abbrev pub parts_within : List ℕ → Policy → Bool → List ℕ → List Part
-parts_within out policy more octets = parts_among out 0 (items_reached policy more octets)
+abbrev pub parts_within : Profile → List ℕ → Policy → Bool → List ℕ → List Part
+parts_within profile out policy more octets = parts_among out 0 (items_reached profile policy more octets)
 
 -- those of an input, as far as it is answered
-abbrev pub parts_answered : List ℕ → Policy → List ℕ → List Part
-parts_answered out policy input = parts_within out policy (is_longer input) (take (2 ^ 40) input)
+abbrev pub parts_answered : Profile → List ℕ → Policy → List ℕ → List Part
+parts_answered profile out policy input = parts_within profile out policy (is_longer input) (take (2 ^ 40) input)
 
--- a part is an accepted message of one field
-pub record IsAlone (part : Part) : Type 0 where
-  pub accepted : IsMessage part.octets
+-- a part is a message of one field that is accepted by a profile
+pub record IsAlone (profile : Profile) (part : Part) : Type 0 where
+  pub accepted : IsMessageUnder profile part.octets
   pub one_field : field_count part.octets ≡ 1
 
 -- the columns of the fields that have parts
@@ -69,9 +70,9 @@ columns_here (Accepted found) = choose (edition found.octets == 1) (λ _. []) (�
 columns_here (Refused refused) = []
 
 -- the parts are the fields in their order, each as an accepted message of its own with its column
-pub record SplitsFields (out : List ℕ) (policy : Policy) (more : Bool) (octets : List ℕ) : Type 0 where
-  pub alone : All IsAlone (parts_within out policy more octets)
-  pub columns : map (λ part. column_of part.octets 1) (parts_within out policy more octets) ≡ flat_map columns_here (items_reached policy more octets)
+pub record SplitsFields (profile : Profile) (out : List ℕ) (policy : Policy) (more : Bool) (octets : List ℕ) : Type 0 where
+  pub alone : All (IsAlone profile) (parts_within profile out policy more octets)
+  pub columns : map (λ part. column_of part.octets 1) (parts_within profile out policy more octets) ≡ flat_map columns_here (items_reached profile policy more octets)
 
 -- ---- how they stand
 
@@ -99,13 +100,13 @@ OfNames (Some before) None P = ⊥
 OfNames (Some before) (Some now) P = P before now
 
 -- Of the parts of an input some number of first ones stand, and all where neither a device nor memory ended the run.
-pub record PutsParts (out : List ℕ) (policy : Policy) (outcome : Outcome) (before now : Seen) (input : List ℕ) : Type 0 where
-  pub first : OfNames before.names now.names (λ held held_now. (count : ℕ) × StandFirst (parts_answered out policy input) held held_now count)
-  pub whole : is_broken outcome ≡ false → OfNames before.names now.names (StandAll (parts_answered out policy input))
+pub record PutsParts (profile : Profile) (out : List ℕ) (policy : Policy) (outcome : Outcome) (before now : Seen) (input : List ℕ) : Type 0 where
+  pub first : OfNames before.names now.names (λ held held_now. (count : ℕ) × StandFirst (parts_answered profile out policy input) held held_now count)
+  pub whole : is_broken outcome ≡ false → OfNames before.names now.names (StandAll (parts_answered profile out policy input))
 
 -- So by what was left of the input, where that is told, and by the octets that were taken. After a fault of the
 -- input all parts stand that these have while more may follow.
-pub record LeavesNames (out : List ℕ) (policy : Policy) (outcome : Outcome) (before now : Seen) : Type 0 where
-  pub left : IfSome before.left (PutsParts out policy outcome before now)
-  pub taken : OfTaken before now (λ taken. PutsParts out policy outcome before now taken
-      × (outcome ≡ ReadFault → OfNames before.names now.names (StandAll (parts_within out policy true taken))))
+pub record LeavesNames (profile : Profile) (out : List ℕ) (policy : Policy) (outcome : Outcome) (before now : Seen) : Type 0 where
+  pub left : IfSome before.left (PutsParts profile out policy outcome before now)
+  pub taken : OfTaken before now (λ taken. PutsParts profile out policy outcome before now taken
+      × (outcome ≡ ReadFault → OfNames before.names now.names (StandAll (parts_within profile out policy true taken))))

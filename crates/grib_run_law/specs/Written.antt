@@ -67,4 +67,4 @@ stated_of command policy more octets = stated_by command.ending (answer_of (plan
 abbrev pub Writes : (List ℕ → List ℕ → Type 0) → Command → Policy → Bool → List ℕ → Type 0
 Writes Is command policy more octets =
     let stated = stated_of command policy more octets in
-    WritesItems Is command policy stated.outcome (items_of policy more octets).items (written stated.acts)
+    WritesItems Is command policy stated.outcome (items_of command.profile policy more octets).items (written stated.acts)

@@ -1,7 +1,8 @@
-//! Laws over the definitions.
+//! Laws over the definitions, under each profile.
 
 ghost use Rattle.std.specs.Prelude.{◌≡◌, ◌<◌, ◌≤◌, ◌++◌, ◌^◌, ℕ, Bool, true, IfSome, List, length};
 ghost use Rattle.std.specs.declared.option.Option.{Option};
+ghost use Rattle.grib_base.specs.declared.profile.Profile.{Profile};
 ghost use Rattle.grib_keys.specs.declared.condition.Change.{Change};
 ghost use Rattle.grib_keys.specs.declared.wanted.Wanted.{Wanted};
 ghost use Rattle.grib_migrate.specs.declared.labels.Local.{Local};
@@ -17,9 +18,9 @@ ghost use Rattle.grib_stream.specs.Cutting.{EndsAtMessage, later_by, message_cou
 ghost use Rattle.grib_items.specs.declared.policy.Policy.{Policy};
 ghost use Rattle.grib_items.specs.Laws.{nothing};
 ghost use Rattle.grib_command.specs.declared.job.Job.{Job};
-ghost use Rattle.grib_command.specs.Command.{Command, IsLawfulCommand, task};
+ghost use Rattle.grib_command.specs.Command.{Command, IsLawfulCommand, task, under};
 ghost use Rattle.grib_command.specs.Jobs.{IsJob, CanChange, is_target};
-ghost use Rattle.grib_command.specs.Judging.{judge};
+ghost use Rattle.grib_command.specs.Judging.{judge_under};
 ghost use Rattle.grib_edit.specs.Filtering.{filter_command};
 ghost use Rattle.grib_edit.specs.Migrating.{migrate_command};
 ghost use Rattle.grib_edit.specs.Repacking.{repack_command};
@@ -28,7 +29,7 @@ ghost use Rattle.grib_edit.specs.Splitting.{split_command};
 ghost use Rattle.grib_run_spec.specs.Seen.{Seen};
 ghost use Rattle.grib_run_spec.specs.Serving.{AnswersWork};
 ghost use Rattle.grib_run_spec.specs.Stated.{stated_to};
-ghost use Rattle.grib_run_spec.specs.Tasks.{answer_with, work_of};
+ghost use Rattle.grib_run_spec.specs.Tasks.{answer_under, work_under};
 ghost use Rattle.grib_run_law.specs.Complete.{Piece, IsMadeOf, HaveResults};
 ghost use Rattle.grib_run_law.specs.Each.{writes_each};
 ghost use Rattle.grib_run_law.specs.Judged.{Judges};
@@ -46,8 +47,8 @@ use grib_stream::laws::each_outcome_has_its_note;
 /// What `repack` writes is, for each item until the run ends, a message with the same values, or what stands for a message
 /// that cannot be changed, or what the policy has for octets that are refused.
 pub fn what_is_repacked_keeps_each_value()
-    ensures { (target : RepackTarget) (policy : Policy) (more : Bool) (octets : List ℕ) → is_target target ≡ true
-        → Writes (IfOctets SameValues) (repack_command target) policy more octets }
+    ensures { (profile : Profile) (target : RepackTarget) (policy : Policy) (more : Bool) (octets : List ℕ) → is_target target ≡ true
+        → Writes (IfOctets (SameValues profile)) (under profile (repack_command target)) policy more octets }
 {
     items_stand();
     what_is_packed_anew_keeps_each_value();
@@ -55,8 +56,8 @@ pub fn what_is_repacked_keeps_each_value()
 
 /// What `migrate` writes, by a parameter table, a table of surfaces and what is chosen of local use, is so a message of edition 2 whose points mean the same.
 pub fn what_is_migrated_keeps_each_value()
-    ensures { (local : Local) (table : Entries) (surfaces : SurfaceEntries) (policy : Policy) (more : Bool) (octets : List ℕ)
-        → Writes (IfOctets SameMigrated) (migrate_command local table surfaces) policy more octets }
+    ensures { (profile : Profile) (local : Local) (table : Entries) (surfaces : SurfaceEntries) (policy : Policy) (more : Bool) (octets : List ℕ)
+        → Writes (IfOctets (SameMigrated profile)) (under profile (migrate_command local table surfaces)) policy more octets }
 {
     items_stand();
 }
@@ -64,8 +65,8 @@ pub fn what_is_migrated_keeps_each_value()
 /// What `set` writes is so a message with the same columns. Where no key stands twice among the changes, its fields have the
 /// keys with their new values.
 pub fn what_is_set_keeps_each_field()
-    ensures { (changes : List Change) (policy : Policy) (more : Bool) (octets : List ℕ) → CanChange changes
-        → Writes (SetsKeys changes) (set_command changes) policy more octets }
+    ensures { (profile : Profile) (changes : List Change) (policy : Policy) (more : Bool) (octets : List ℕ) → CanChange changes
+        → Writes (SetsKeys profile changes) (under profile (set_command changes)) policy more octets }
 {
     items_stand();
     what_is_set_keeps_each_column();
@@ -73,8 +74,8 @@ pub fn what_is_set_keeps_each_field()
 
 /// What `filter` writes are so the fields that fulfil the conditions, each with its column.
 pub fn what_is_filtered_keeps_each_column()
-    ensures { (conditions : List Wanted) (policy : Policy) (more : Bool) (octets : List ℕ)
-        → Writes (IsFiltered conditions) (filter_command conditions) policy more octets }
+    ensures { (profile : Profile) (conditions : List Wanted) (policy : Policy) (more : Bool) (octets : List ℕ)
+        → Writes (IsFiltered profile conditions) (under profile (filter_command conditions)) policy more octets }
 {
     items_stand();
     what_is_cut_out_keeps_its_column();
@@ -83,7 +84,7 @@ pub fn what_is_filtered_keeps_each_column()
 /// What `split` puts on the shelf are the fields of the messages that are answered, in their order: each is an accepted
 /// message of one field, with its column.
 pub fn what_is_split_keeps_each_column()
-    ensures { (out : List ℕ) (policy : Policy) (more : Bool) (octets : List ℕ) → SplitsFields out policy more octets }
+    ensures { (profile : Profile) (out : List ℕ) (policy : Policy) (more : Bool) (octets : List ℕ) → SplitsFields profile out policy more octets }
 {
     items_stand();
     what_is_cut_out_keeps_its_column();
@@ -93,22 +94,22 @@ pub fn what_is_split_keeps_each_column()
 /// the next is as it was or has some first octets of that field, and each other name has what it had. Where all was
 /// done, all fields stand so.
 pub fn what_is_split_stands_whole()
-    ensures first { (out : List ℕ) (policy : Policy) (more : Bool) (octets : List ℕ) (before now : World)
+    ensures first { (profile : Profile) (out : List ℕ) (policy : Policy) (more : Bool) (octets : List ℕ) (before now : World)
         → length octets < 2 ^ 64
-        → DidFront before now (stated_of (split_command out) policy more octets).acts
+        → DidFront before now (stated_of (under profile (split_command out)) policy more octets).acts
         → OfNames before.names now.names (λ held held_now.
-        (count : ℕ) × StandFirst (parts_within out policy more octets) held held_now count) }
-    ensures whole { (out : List ℕ) (policy : Policy) (more : Bool) (octets : List ℕ) (before now : World)
+        (count : ℕ) × StandFirst (parts_within profile out policy more octets) held held_now count) }
+    ensures whole { (profile : Profile) (out : List ℕ) (policy : Policy) (more : Bool) (octets : List ℕ) (before now : World)
         → length octets < 2 ^ 64
-        → Did before now (stated_of (split_command out) policy more octets).acts
-        → OfNames before.names now.names (StandAll (parts_within out policy more octets)) }
+        → Did before now (stated_of (under profile (split_command out)) policy more octets).acts
+        → OfNames before.names now.names (StandAll (parts_within profile out policy more octets)) }
 {}
 
 /// What a run leaves. Where neither a device nor memory ended it, `repack`, `migrate`, `set` and `filter` appended for each
 /// item, until the run ended, what the laws above say. Of `split`, however it ended, the fields stand on the shelf.
 pub fn what_a_run_leaves()
-    ensures { (job : Job) (policy : Policy) (outcome : Outcome) (before now : Seen) → IsJob job
-        → AnswersWork (work_of job) policy outcome before now → Leaves job policy outcome before now }
+    ensures { (profile : Profile) (job : Job) (policy : Policy) (outcome : Outcome) (before now : Seen) → IsJob job
+        → AnswersWork (work_under profile job) policy outcome before now → Leaves profile job policy outcome before now }
 {
     items_stand();
     what_is_repacked_keeps_each_value();
@@ -120,8 +121,8 @@ pub fn what_a_run_leaves()
 /// Each message of the input of a run, as far as it is answered, is in the grammar of its edition, and octets that are
 /// refused, passed or not, are refused by the first row that fails.
 pub fn what_a_run_answers_is_in_the_grammar()
-    ensures { (job : Job) (policy : Policy) (outcome : Outcome) (before now : Seen)
-        → AnswersWork (work_of job) policy outcome before now → IfSome before.left (Judges policy outcome) }
+    ensures { (profile : Profile) (job : Job) (policy : Policy) (outcome : Outcome) (before now : Seen)
+        → AnswersWork (work_under profile job) policy outcome before now → IfSome before.left (Judges profile policy outcome) }
 {
     items_stand();
 }
@@ -140,22 +141,22 @@ pub fn what_passes_nothing_answers_a_stream()
 /// after the other, whatever stands on the shelf under the names of the tables. The whole ends as the second part
 /// does, up to the numbers of messages. Nothing is passed.
 pub fn parts_are_written_one_after_the_other()
-    ensures octets { (job : Job) (texts : Texts) (front rest : List ℕ) → IsJob job → writes_each job ≡ true
-        → length (front ++ rest) ≤ 2 ^ 40 → EndsAtMessage judge front
-        → (answer_with job texts front).outcome ≡ Done
-        → written (answer_with job texts (front ++ rest)).acts
-        ≡ written (answer_with job texts front).acts ++ written (answer_with job texts rest).acts }
-    ensures outcome { (job : Job) (texts : Texts) (front rest : List ℕ) → IsJob job → writes_each job ≡ true
-        → length (front ++ rest) ≤ 2 ^ 40 → EndsAtMessage judge front
-        → (answer_with job texts front).outcome ≡ Done
-        → (answer_with job texts (front ++ rest)).outcome
-        ≡ later_by (message_count judge front) (answer_with job texts rest).outcome }
+    ensures octets { (profile : Profile) (job : Job) (texts : Texts) (front rest : List ℕ) → IsJob job → writes_each job ≡ true
+        → length (front ++ rest) ≤ 2 ^ 40 → EndsAtMessage (judge_under profile) front
+        → (answer_under profile job texts front).outcome ≡ Done
+        → written (answer_under profile job texts (front ++ rest)).acts
+        ≡ written (answer_under profile job texts front).acts ++ written (answer_under profile job texts rest).acts }
+    ensures outcome { (profile : Profile) (job : Job) (texts : Texts) (front rest : List ℕ) → IsJob job → writes_each job ≡ true
+        → length (front ++ rest) ≤ 2 ^ 40 → EndsAtMessage (judge_under profile) front
+        → (answer_under profile job texts front).outcome ≡ Done
+        → (answer_under profile job texts (front ++ rest)).outcome
+        ≡ later_by (message_count (judge_under profile) front) (answer_under profile job texts rest).outcome }
 {}
 
 /// Where an input of at most 2 ^ 40 octets consists of messages of the grammar, with octets between them in which
 /// none begins, where each of them can be changed as asked, and where the tables, if the job reads
 /// any, are good, the run is done.
 pub fn what_can_be_answered_is_done()
-    ensures { (job : Job) (texts : Texts) (pieces : List Piece) (input : List ℕ) → length input ≤ 2 ^ 40
-        → IsMadeOf pieces input → HaveResults (work_of job) texts pieces → (answer_with job texts input).outcome ≡ Done }
+    ensures { (profile : Profile) (job : Job) (texts : Texts) (pieces : List Piece) (input : List ℕ) → length input ≤ 2 ^ 40
+        → IsMadeOf profile pieces input → HaveResults (work_under profile job) texts pieces → (answer_under profile job texts input).outcome ≡ Done }
 {}

@@ -1,5 +1,7 @@
 -- What each job is, and the answer to it.
 use Rattle.std.specs.Prelude.{◌≡◌, ℕ, ◌^◌, Bool, true, false, Option, Some, None, List, [], length}
+use Rattle.grib_base.specs.declared.profile.Profile.{Profile}
+use Rattle.grib_base.specs.declared.profile.Profile.TheVariants as profiles
 use Rattle.grib_stream.specs.Acts.{Act, writes}
 use Rattle.grib_stream.specs.Answer.{Answer, answer_within}
 use Rattle.grib_stream.specs.declared.outcome.Outcome.{Outcome}
@@ -18,7 +20,7 @@ use Rattle.grib_table.specs.Both.{Both, BothGood, ParametersRefused, SurfacesRef
 use Rattle.grib_command.specs.declared.job.Job.{Job}
 use Rattle.grib_command.specs.declared.job.Job.TheVariants.{Check, List as Listing, Keys, Stats, Dump, Values, Filter, Split, Set, Repack, RepackLeast, Rescan, Crop, Migrate, Demote, Make, Print}
 use Rattle.grib_report.specs.Checking.{check_command}
-use Rattle.grib_command.specs.Command.{Command, task}
+use Rattle.grib_command.specs.Command.{Command, task, under}
 use Rattle.grib_report.specs.Dumping.{dump_command}
 use Rattle.grib_edit.specs.Filtering.{filter_command}
 use Rattle.grib_edit.specs.Least.{least_command}
@@ -79,25 +81,38 @@ migrating local tables = migrate_command local tables.parameters tables.surfaces
 abbrev pub demoting : TableMatch → Bool → Bool → Tables → Command
 demoting matching keep_local any_earth tables = demote_command matching keep_local any_earth tables.parameters
 
+-- what each job asks, by the profile of the stated templates
+abbrev pub work_of_job : Job → Work
+work_of_job Check = Reads check_command
+work_of_job Listing = Reads list_command
+work_of_job Keys = Reads keys_command
+work_of_job Stats = Reads stats_command
+work_of_job (Dump None) = Reads dump_command
+work_of_job (Dump (Some places)) = Reads (value_command places)
+work_of_job (Values format) = Reads (values_command format)
+work_of_job (Filter conditions) = Reads (filter_command conditions)
+work_of_job (Split name) = Reads (split_command name)
+work_of_job (Set changes) = Reads (set_command changes)
+work_of_job (Repack target) = Reads (repack_command target)
+work_of_job RepackLeast = Reads least_command
+work_of_job Rescan = Reads (edit_command edits.Rescan)
+work_of_job (Crop area) = Reads (edit_command (edits.Crop area))
+work_of_job (Migrate params surfaces local) = ReadsTables params surfaces (migrating local)
+work_of_job (Demote params keep_local any_earth matching) = ReadsTables params None (demoting matching keep_local any_earth)
+work_of_job (Make seed ni nj target) = Makes (made_answer seed ni nj target)
+work_of_job (Print page) = Makes (writing (text_of page) [])
+
+-- what is asked, where messages of edition 2 are accepted by a profile
+abbrev pub by_profile : Profile → Work → Work
+by_profile profile (Reads command) = Reads (under profile command)
+by_profile profile (Makes stated) = Makes stated
+by_profile profile (ReadsTables params surfaces commands) = ReadsTables params surfaces (λ tables. under profile (commands tables))
+
+abbrev pub work_under : Profile → Job → Work
+work_under profile job = by_profile profile (work_of_job job)
+
 abbrev pub work_of : Job → Work
-work_of Check = Reads check_command
-work_of Listing = Reads list_command
-work_of Keys = Reads keys_command
-work_of Stats = Reads stats_command
-work_of (Dump None) = Reads dump_command
-work_of (Dump (Some places)) = Reads (value_command places)
-work_of (Values format) = Reads (values_command format)
-work_of (Filter conditions) = Reads (filter_command conditions)
-work_of (Split name) = Reads (split_command name)
-work_of (Set changes) = Reads (set_command changes)
-work_of (Repack target) = Reads (repack_command target)
-work_of RepackLeast = Reads least_command
-work_of Rescan = Reads (edit_command edits.Rescan)
-work_of (Crop area) = Reads (edit_command (edits.Crop area))
-work_of (Migrate params surfaces local) = ReadsTables params surfaces (migrating local)
-work_of (Demote params keep_local any_earth matching) = ReadsTables params None (demoting matching keep_local any_earth)
-work_of (Make seed ni nj target) = Makes (made_answer seed ni nj target)
-work_of (Print page) = Makes (writing (text_of page) [])
+work_of = work_under profiles.Stated
 
 -- what holds of the command of a job that reads its input, by the tables where it reads them
 abbrev pub IfReads : Work → Option Tables → (Command → Type 0) → Type 0
@@ -155,10 +170,13 @@ reads_table job = has_table (work_of job)
 abbrev pub uses_shelf : Job → Bool
 uses_shelf job = has_shelf (work_of job)
 
--- the answer to a job, by what stands on the shelf under the names of its tables, if it has any, and by the input;
--- `make` reads none
+-- the answer to a job by a profile, by what stands on the shelf under the names of its tables, if it has any, and by the
+-- input; `make` reads none
+abbrev pub answer_under : Profile → Job → Texts → List ℕ → Answer
+answer_under profile job texts input = answer_to (work_under profile job) texts input
+
 abbrev pub answer_with : Job → Texts → List ℕ → Answer
-answer_with job texts input = answer_to (work_of job) texts input
+answer_with = answer_under profiles.Stated
 
 -- the answer to a job that reads no table
 abbrev pub answer : Job → List ℕ → Answer

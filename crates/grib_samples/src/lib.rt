@@ -130,6 +130,30 @@ pub const FIRST_VALUES: &[u8] = b"\0\0\0\x08\x07\0\x01\x02";
 /// The numbers 3, 4 and 5.
 pub const SECOND_VALUES: &[u8] = b"\0\0\0\x08\x07\x03\x04\x05";
 
+/// Four points of a general unstructured grid, template 3.101, which the stated profile does not have: the shape of the
+/// earth, the grid's number, its reference and its UUID.
+pub const UNSTRUCTURED_GRID: &[u8] = b"\0\0\0\x23\x03\0\0\0\0\x04\0\0\0\x65\x06\0\0\x1a\x01\
+\xa2\x7b\x8d\xe6\x18\xc4\x11\xe4\x82\x0a\xb5\xb0\x98\xc6\xa5\xc0";
+
+/// A Section 4 of template 4.15, which begins as 4.0: statistics over an area at a point in time.
+pub const AREA_PRODUCT: &[u8] =
+    b"\0\0\0\x25\x04\0\0\0\x0f\0\0\x02\xff\x01\0\0\0\x01\0\0\0\x06\x67\0\0\0\0\x02\
+\xff\xff\xff\xff\xff\xff\0\0\x01";
+
+/// A Section 4 of template 4.40, which has a constituent in octets 12 and 13: the mass mixing ratio of carbon monoxide.
+pub const CHEMICAL_PRODUCT: &[u8] =
+    b"\0\0\0\x24\x04\0\0\0\x28\x14\x02\0\x04\x02\xff\x01\0\0\0\x01\0\0\0\x06\
+\x67\0\0\0\0\x02\xff\xff\xff\xff\xff\xff";
+
+/// A Section 4 of template 4.254, which has a category, a number, and how many characters there are.
+pub const CHARACTER_PRODUCT: &[u8] = b"\0\0\0\x0f\x04\0\0\0\xfe\x03\x05\0\0\0\x01";
+
+/// Four numbers in binary32, template 5.4.
+pub const FOUR_BINARY32: &[u8] = b"\0\0\0\x0c\x05\0\0\0\x04\0\x04\x01";
+
+/// The numbers 1, 2, 3 and 4 in binary32.
+pub const BINARY32_VALUES: &[u8] = b"\0\0\0\x15\x07\x3f\x80\0\0\x40\0\0\0\x40\x40\0\0\x40\x80\0\0";
+
 /// The octets of a message with this total length and these sections.
 pub fn message_of(alloc: Global, total: u64, sections: &[&[u8]]) -> Result<Vec<u8>, AllocError> {
     let mut octets = b"GRIB\0\0\0\x02".to_vec(alloc)?;

@@ -92,7 +92,7 @@ const WORDS_AT_FAULT: [(&str, &str); 15] = [
     ),
 ];
 
-const VALUES_AT_FAULT: [(&str, &str); 8] = [
+const VALUES_AT_FAULT: [(&str, &str); 11] = [
     (
         "help dump decimals=19",
         "word 1 \"decimals=19\": decimals is a whole number from 0 to 18\n",
@@ -112,6 +112,18 @@ const VALUES_AT_FAULT: [(&str, &str); 8] = [
     (
         "help set kept=skip",
         "word 1 \"kept=skip\": kept is copy or pass\n",
+    ),
+    (
+        "help keys profile=closed",
+        "word 1 \"profile=closed\": profile is open\n",
+    ),
+    (
+        "help rescan profile=open profile=open",
+        "word 2 \"profile=open\": profile= stands before; each name stands once\n",
+    ),
+    (
+        "help make profile=open",
+        "word 1 \"profile=open\": make has no profile=; its words: grib help make\n",
     ),
     ("help demote earth=6", "word 1 \"earth=6\": earth is any\n"),
     (
@@ -146,10 +158,18 @@ const WANTED: [(&str, &str); 7] = [
     ),
 ];
 
-const DONE: [(&str, &str); 6] = [
+const DONE: [(&str, &str); 8] = [
     (
         "help list refused=pass",
         "grib list refused=pass: writes a line for each field, and skips what is refused.\n",
+    ),
+    (
+        "help check profile=open",
+        "grib check profile=open: writes a line for each message, and a line on the input, and accepts any grid, product and packing.\n",
+    ),
+    (
+        "help rescan kept=copy profile=open refused=pass",
+        "grib rescan kept=copy profile=open refused=pass: writes each message with its points from west to east and from north to south, and accepts any grid, product and packing, and skips what is refused, and copies a message that it cannot change.\n",
     ),
     (
         "--help filter centre=98 kept=copy",
@@ -169,11 +189,11 @@ const DONE: [(&str, &str); 6] = [
     ),
     (
         "help help list",
-        "grib help list: tells of the words behind help.\n",
+        "grib help list: tells of the words after help.\n",
     ),
 ];
 
-const TEXTS: [(&str, &str); 5] = [
+const TEXTS: [(&str, &str); 6] = [
     (
         "help centre",
         "centre              Section 1, octets 6-7: originating centre\n",
@@ -187,6 +207,10 @@ const TEXTS: [(&str, &str); 5] = [
         "OutsideBox          kept by crop: i1 or j1 is beyond the last column or row\n",
     ),
     (
+        "help Packing",
+        "Packing             kept by dump, values, stats, repack, rescan, crop and demote: the values of a field cannot be read, since its packing template, which is the number, is not supported; only under profile=open\n",
+    ),
+    (
         "help TooLong",
         "TooLong             loss of demote: the message would have more than 16,777,215 octets\n",
     ),
@@ -197,7 +221,10 @@ const TEXTS: [(&str, &str); 5] = [
 ];
 
 const PAGES: [(&str, &str); 4] = [
-    ("help keys", "keys [refused=pass]: For each field every key"),
+    (
+        "help keys",
+        "keys [refused=pass] [profile=open]: For each field every key",
+    ),
     (
         "help refusals",
         "refusals are the reasons in a line refused message",
@@ -208,7 +235,7 @@ const PAGES: [(&str, &str); 4] = [
     ),
     (
         "help filter",
-        "filter KEY=VALUES .. KEY!=VALUES .. [refused=copy|pass] [kept=copy|pass]: The fields",
+        "filter KEY=VALUES .. KEY!=VALUES .. [refused=copy|pass] [kept=copy|pass] [profile=open]: The fields",
     ),
 ];
 

@@ -30,6 +30,7 @@ check to stats [refused=pass]                     on behind what is refused\n\
 filter to crop [refused=copy|pass]                the same, or copied\n\
 filter to crop [kept=copy|pass]                   on behind what is kept\n\
 dump, values [kept=pass]                          the same\n\
+check to crop [profile=open]                      any grid, product and packing\n\
 Messages come from standard input and go to standard output. The pages: man grib\n\
 ";
 

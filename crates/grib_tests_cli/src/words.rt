@@ -39,7 +39,7 @@ fn command_of(asked: &Result<Job, JobFault>) -> &'static str {
 }
 
 // Lines that are read, each as the command that its first word names.
-const READ: [&str; 79] = [
+const READ: [&str; 95] = [
     // Each command has its name.
     "check",
     "list",
@@ -58,6 +58,23 @@ const READ: [&str; 79] = [
     "dump kept=pass decimals=3",
     "set centre=98 refused=copy kept=copy",
     "demote tables=any params=t",
+    // So does the profile, with each command that reads messages.
+    "check profile=open",
+    "list profile=open refused=pass",
+    "keys refused=pass profile=open",
+    "stats profile=open",
+    "dump profile=open decimals=3 kept=pass",
+    "values as=f4 profile=open",
+    "filter profile=open centre=98",
+    "filter centre=98 profile=open centre!=7",
+    "split out=p profile=open",
+    "set year=2025 kept=copy profile=open",
+    "repack profile=open to=2 kept=copy",
+    "repack to=least profile=open",
+    "migrate profile=open params=t",
+    "demote params=t profile=open refused=copy",
+    "rescan profile=open",
+    "crop i0=0 i1=1 profile=open j0=0 j1=1",
     // `dump` takes a number of decimals.
     "dump decimals=0",
     "dump decimals=18",
@@ -333,7 +350,7 @@ const UNREAD_PAGES: [(u64, &str); 8] = [
 ];
 
 /// Lines with arguments on what a run skips that are not read.
-const UNREAD_PAST: [(u64, &str); 11] = [
+const UNREAD_PAST: [(u64, &str); 19] = [
     (1, "check refused=skip"),
     (2, "list refused=pass refused=pass"),
     // What keeps no message has no word on that, and `dump` copies none.
@@ -348,6 +365,16 @@ const UNREAD_PAST: [(u64, &str); 11] = [
     (3, "set kept=copy refused=pass"),
     // What reads no messages has no such word.
     (1, "make refused=pass"),
+    (1, "make profile=open"),
+    (1, "help profile=open"),
+    (1, "version profile=open"),
+    // There is one profile to ask for, once.
+    (1, "list profile=stated"),
+    (1, "list profile="),
+    (1, "list profile"),
+    (2, "check profile=open profile=open"),
+    // It is no key.
+    (2, "filter profile=open"),
 ];
 
 #[test]

@@ -2,7 +2,7 @@
 
 ghost use Rattle.std.specs.Prelude.{◌≤◌, ◌^◌};
 
-use grib_base::{Fault, Reason, Refusal};
+use grib_base::{Fault, Profile, Reason, Refusal};
 use grib_engine::{
     Answering, ByOutput, Cause, Checking, Job, Kept, Outcome, Totals, close, close_with_note, serve,
 };
@@ -95,6 +95,7 @@ fn check_within(
 {
     let answering = Answering {
         answerer: &ByOutput(Checking),
+        profile: Profile::Stated,
     };
     let policy = Policy {
         refused: None,

@@ -10,7 +10,7 @@ use Rattle.grib_nearest.specs.declared.format.Format.{Format}
 use Rattle.grib_arrays.specs.declared.shape.Shape.{Shape}
 use Rattle.grib_arrays.specs.Header.{header}
 use Rattle.grib_arrays.specs.Values.{point_octets}
-use Rattle.grib_command.specs.Command.{Command, printing_fields}
+use Rattle.grib_command.specs.Command.{Command, printing_fields, reading_values}
 use Rattle.grib_values.specs.Shapes.{shape_1, shape_2}
 
 -- the values of a column with this reference value, one after another
@@ -32,4 +32,4 @@ array_2 f message i =
     let column = column_of message i in array f (shape_2 (part_octets message i 3)) (reduced (ieee column.reference)) column
 
 abbrev pub values_command : Format → Command
-values_command f = printing_fields (λ message m. array_1 f message) (λ message m i. array_2 f message i)
+values_command f = reading_values (printing_fields (λ message m. array_1 f message) (λ message m i. array_2 f message i))

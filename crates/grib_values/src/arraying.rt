@@ -12,10 +12,9 @@ use grib_command::write_whole;
 use grib_dyadic::Dyadic;
 use grib_io::{Sink, Stop};
 use grib_nearest::Format;
-use grib_report::{Printer, ROOM, ieee_reference};
+use grib_report::{ROOM, ValuePrinter, ieee_reference};
 use grib1_sections::Message1;
-use grib2_arrival::Arrival;
-use grib2_message::Message;
+use grib2_message::ReadableMessage;
 use std::alloc::Global;
 
 /// Prints an array of the values of a field, each the number of the format that is nearest to the exact value.
@@ -24,15 +23,12 @@ pub struct Arraying {
     pub format: Format,
 }
 
-impl Printer for Arraying {
-    ghost use Rattle.std.specs.Prelude.{false};
+impl ValuePrinter for Arraying {
     ghost use Rattle.grib_values.specs.Arrays.{array_1, array_2};
 
     ghost first_text = { λ arraying message number. array_1 arraying.format message };
 
     ghost field_text = { λ arraying message number field. array_2 arraying.format message field };
-
-    ghost hearing = { λ arraying. false };
 
     fn write_first<T: Sink>(
         &self,
@@ -61,7 +57,7 @@ impl Printer for Arraying {
         &self,
         alloc: Global,
         _number: u64,
-        message: &Message<'_>,
+        message: &ReadableMessage<'_>,
         field: u32,
         lines: &mut Vec<u8>,
         output: &mut T,
@@ -79,21 +75,6 @@ impl Printer for Arraying {
             output,
         )
     }
-
-    /// No message is heard.
-    fn hears(&self) -> bool {
-        false
-    }
-
-    fn write_heard<T: Sink>(
-        &self,
-        _alloc: Global,
-        _number: u64,
-        _arrival: &Arrival,
-        _output: &mut T,
-    ) -> Result<(), Stop> {
-        Err(Stop::Memory)
-    }
 }
 
 /// The shape of the array of a message of edition 1.
@@ -107,7 +88,7 @@ fn shape_of_message(message: &Message1<'_>) -> Shape
 }
 
 /// The shape of the array of a field of edition 2, counted from 1.
-fn shape_of_field(message: &Message<'_>, field: u32) -> Shape
+fn shape_of_field(message: &ReadableMessage<'_>, field: u32) -> Shape
     requires first { 1 ≤ field }
     requires last { field ≤ field_count message.now }
     ensures { result ≡ shapes.shape_2 (part_octets message.now field 3) }

@@ -1,22 +1,25 @@
 //! The shapes of the arrays of fields.
 
-ghost use Rattle.std.specs.Prelude.{◌≡◌, ◌≤◌, length, IfSome};
+ghost use Rattle.std.specs.Prelude.{◌≡◌, ◌≤◌, false, length, IfSome};
 ghost use Rattle.grib2_sections.specs.Template.{least_length};
 ghost use Rattle.grib2_grids.specs.Grid as grid2;
+ghost use Rattle.grib2_grids.specs.Opaque as opaque_grids;
 ghost use Rattle.grib1_sections.specs.Grid as grid1;
 ghost use Rattle.grib_values.specs.Shapes as definitions;
 
 use grib_arrays::Shape;
 use grib_bits::{u8_at, u16_at, u32_at};
 use grib_rescan::Scanning;
+use grib2_grids::is_opaque_grid;
 
 /// The shape of the array of a field of edition 2, by its Section 3.
 pub(crate) fn second_shape(section: &[u8]) -> Shape
     requires head { 14 ≤ length section.now }
-    requires long { least_length grid2.grid_templates (grid2.grid_template section.now) ≤ length section.now }
+    requires long { opaque_grids.is_opaque_grid section.now ≡ false
+        → least_length grid2.grid_templates (grid2.grid_template section.now) ≤ length section.now }
     ensures { result ≡ definitions.shape_2 section.now }
 {
-    if u8_at(section, 11) != 0 {
+    if is_opaque_grid(section) || u8_at(section, 11) != 0 {
         return Shape::Points(u32_at(section, 7));
     }
     match scanning_place(u16_at(section, 13)) {

@@ -59,6 +59,17 @@ fn repack_deed(words: &[String]) -> &'static str
     }
 }
 
+/// What is accepted.
+pub(super) fn profile_part(words: &[String]) -> &'static str
+    ensures { result.now ≡ helping.profile_part (map string_bytes words.now) }
+{
+    if has_word(words, "profile=open") {
+        ", and accepts any grid, product and packing"
+    } else {
+        ""
+    }
+}
+
 /// What is done with what is refused.
 pub(super) fn refused_part(words: &[String]) -> &'static str
     ensures { result.now ≡ helping.refused_part (map string_bytes words.now) }

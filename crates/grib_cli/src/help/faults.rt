@@ -43,17 +43,24 @@ fn no_command(alloc: Global, word: &str) -> Result<String, AllocError>
         return String::from_str(alloc, "no words but --help and --version begin with a dash");
     }
     let nearest = nearest_command(alloc, word)?;
+    no_such(alloc, "command", nearest, "all commands: grib help")
+}
+
+/// Why a name is none of this kind, with the nearest of the kind, if there is one, and where all stand.
+fn no_such(alloc: Global, kind: &str, nearest: &str, all: &str) -> Result<String, AllocError>
+    ensures { IfOk result (λ text. string_bytes text ≡ helping.no_such kind.now nearest.now all.now) }
+{
     if nearest.is_empty() {
-        return String::from_str(alloc, "no command has this name; all commands: grib help");
+        return joined(alloc, "no ", kind, " has this name; ", all, "", "");
     }
     joined(
         alloc,
-        "no command has this name; nearest: ",
+        "no ",
+        kind,
+        " has this name; nearest: ",
         nearest,
-        "; all commands: grib help",
-        "",
-        "",
-        "",
+        "; ",
+        all,
     )
 }
 
@@ -181,18 +188,7 @@ fn key_reason(alloc: Global, name: &str) -> Result<String, AllocError>
         );
     }
     let nearest = nearest_key(alloc, name)?;
-    if nearest.is_empty() {
-        return String::from_str(alloc, "no key has this name; all keys: grib help keys");
-    }
-    joined(
-        alloc,
-        "no key has this name; nearest: ",
-        nearest,
-        "; all keys: grib help keys",
-        "",
-        "",
-        "",
-    )
+    no_such(alloc, "key", nearest, "all keys: grib help keys")
 }
 
 /// Why a name is not read by a command that takes no keys.
@@ -242,14 +238,16 @@ fn knows(command: Command, name: &str) -> bool
     knows_own(command, name) || knows_policy(command, name)
 }
 
-/// Whether a name is that of what a run does with what it cannot answer.
+/// Whether a name is one that stands beside a command's own, on what it cannot answer or on the profile.
 fn knows_policy(command: Command, name: &str) -> bool
     ensures { result ≡ helping.knows_policy command name.now }
 {
     match command {
         Command::Make | Command::Help | Command::Version => false,
-        Command::Check | Command::List | Command::Keys | Command::Stats => name == "refused",
-        _ => matches!(name, "refused" | "kept"),
+        Command::Check | Command::List | Command::Keys | Command::Stats => {
+            matches!(name, "refused" | "profile")
+        }
+        _ => matches!(name, "refused" | "kept" | "profile"),
     }
 }
 
@@ -282,6 +280,9 @@ fn knows_own(command: Command, name: &str) -> bool
 fn rule_of(command: Command, name: &str) -> &'static str
     ensures { result.now ≡ helping.rule_of command name.now }
 {
+    if name == "profile" {
+        return "open";
+    }
     if matches!(name, "refused" | "kept") {
         return policy_rule(command);
     }

@@ -11,12 +11,12 @@ ghost use Rattle.grib_keys.specs.declared.condition.Change.{Change};
 ghost use Rattle.grib_keys.specs.declared.wanted.Choice.TheVariants.{One, Between, From, UpTo};
 ghost use Rattle.grib_keys.specs.Words.{word_of};
 ghost use Rattle.grib2_message.specs.Fields.{field_count};
-ghost use Rattle.grib2_message.specs.Message.{IsMessage};
+ghost use Rattle.grib2_message.specs.Message.{IsAnyMessage};
 ghost use Rattle.grib_select.specs.Bounds.{IsWithin64};
 ghost use Rattle.grib_select.specs.Values.{key_value_of, fulfils_all};
 ghost use Rattle.grib_command.specs.Pages.{help_lines};
 ghost use Rattle.grib_cli.specs.declared.words.command.Command.{Command};
-ghost use Rattle.grib_cli.specs.declared.words.command.Command.TheVariants.{Dump, Filter, Repack, Migrate, Demote, Help, Version};
+ghost use Rattle.grib_cli.specs.declared.words.command.Command.TheVariants.{Check, Dump, Filter, Set, Repack, Migrate, Demote, Help, Version};
 ghost use Rattle.grib_cli.specs.HelpLines.{is_line_on};
 ghost use Rattle.grib_cli.specs.Helping.{is_empty, is_on_words, told_of_name, told_of_words, reason_at, wanted as wanted_after, name_of, deed_of, done_line, line};
 ghost use Rattle.grib_cli.specs.Reading.{command_named, reading};
@@ -61,6 +61,10 @@ pub fn unread_lines()
     ensures range_set { reading (codes "set" ∷ codes "centre=7..98" ∷ []) ≡ Err 1 }
     ensures but_set { reading (codes "set" ∷ codes "centre!=7" ∷ []) ≡ Err 1 }
     ensures set_again { reading (codes "set" ∷ codes "centre=7" ∷ codes "centre=98" ∷ []) ≡ Err 2 }
+    ensures profile_other { reading (codes "list" ∷ codes "profile=closed" ∷ []) ≡ Err 1 }
+    ensures profile_again { reading (codes "keys" ∷ codes "profile=open" ∷ codes "profile=open" ∷ []) ≡ Err 2 }
+    ensures profile_made { reading (codes "make" ∷ codes "profile=open" ∷ []) ≡ Err 1 }
+    ensures profile_alone { reading (codes "filter" ∷ codes "profile=open" ∷ []) ≡ Err 2 }
     ensures refused_once { reading (codes "filter" ∷ codes "refused=pass" ∷ codes "centre=7" ∷ codes "refused=copy" ∷ []) ≡ Err 3 }
 {}
 
@@ -74,6 +78,9 @@ pub fn read_lines()
     ensures past_first { reading (codes "repack" ∷ codes "kept=copy" ∷ codes "to=2" ∷ codes "refused=pass" ∷ []) ≡ Ok Repack }
     ensures past_keys { reading (codes "filter" ∷ codes "refused=pass" ∷ codes "centre=98" ∷ []) ≡ Ok Filter }
     ensures past_dump { reading (codes "dump" ∷ codes "kept=pass" ∷ codes "decimals=3" ∷ []) ≡ Ok Dump }
+    ensures opened { reading (codes "check" ∷ codes "profile=open" ∷ []) ≡ Ok Check }
+    ensures opened_first { reading (codes "repack" ∷ codes "profile=open" ∷ codes "to=2" ∷ codes "kept=copy" ∷ []) ≡ Ok Repack }
+    ensures opened_last { reading (codes "set" ∷ codes "centre=7" ∷ codes "refused=pass" ∷ codes "profile=open" ∷ []) ≡ Ok Set }
     ensures help { reading (codes "help" ∷ []) ≡ Ok Help }
     ensures version { reading (codes "version" ∷ []) ≡ Ok Version }
     ensures dashed_help { reading (codes "--help" ∷ []) ≡ Ok Help }
@@ -111,7 +118,7 @@ pub fn help_has_a_line_on_each_command()
 pub fn printed_words_pick_their_field()
     ensures read { (key : Key) (value : Value) → IsWithin64 value
         → change_of (word_of (change key value)) ≡ Some (change key value) }
-    ensures picked { (message : List ℕ) (i : ℕ) (key : Key) (value : Value) → IsMessage message
+    ensures picked { (message : List ℕ) (i : ℕ) (key : Key) (value : Value) → IsAnyMessage message
         → All (λ octet. octet < 256) message → 1 ≤ i → i ≤ field_count message
         → key_value_of message i key ≡ Some value
         → fulfils_all message i (conditions_of (word_of (change key value) ∷ [])) ≡ true }

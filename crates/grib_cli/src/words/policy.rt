@@ -1,9 +1,10 @@
-//! What the arguments ask the run to do with what it cannot answer.
+//! What the arguments ask the run to accept, and to do with what it cannot answer.
 
 ghost use Rattle.std.specs.Prelude.{◌≡◌, map, string_bytes};
 ghost use Rattle.grib_cli.specs.Words as asked;
 
 use super::has_word;
+use grib_engine::Profile;
 use grib_items::{Instead, Policy};
 
 /// What the arguments ask to be written instead of octets that are refused, and for messages that cannot be changed.
@@ -13,6 +14,17 @@ pub fn policy_of(words: &[String]) -> Policy
     Policy {
         refused: instead_by(words, "refused=copy", "refused=pass"),
         kept: instead_by(words, "kept=copy", "kept=pass"),
+    }
+}
+
+/// By which profile the arguments ask messages of edition 2 to be accepted.
+pub fn profile_of(words: &[String]) -> Profile
+    ensures { result ≡ asked.profile_of (map string_bytes words.now) }
+{
+    if has_word(words, "profile=open") {
+        Profile::Open
+    } else {
+        Profile::Stated
     }
 }
 

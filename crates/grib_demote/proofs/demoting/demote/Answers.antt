@@ -1,6 +1,8 @@
 use Rattle.std.proofs.Common.{◌≡◌, ℕ, Option, None, Some, List, length, sym, ap, ◌∙◌, arith}
 use Rattle.grib2_sections.specs.Head.{discipline}
 use Rattle.grib2_grids.specs.Grid.{grid_points}
+use Rattle.grib2_grids.specs.Opaque.{is_opaque_grid}
+use Rattle.grib2_products.specs.Opaque.{is_opaque_product}
 use Rattle.grib2_message.specs.Fields.{part_octets}
 use Rattle.grib_reasons.specs.declared.demotion.Demotion.{Demotion}
 use Rattle.grib_demote.specs.Losses.{first_of, product_losses, shape_losses, value_losses}
@@ -10,7 +12,13 @@ use Rattle.grib_demote.proofs.Wholes.{front_lost, middle_lost, last_lost, none_l
 use Rattle.grib_demote.proofs.demoting.demote.Goals as goal
 
 pub u32_at-points-requires-clause-within : goal.u32_at-points-requires-clause-within
-u32_at-points-requires-clause-within c = omega (arith, c.of-parts.ensures.holds.grid.least, ap length c.of-parts.ensures.grid)
+u32_at-points-requires-clause-within c = omega (arith, c.in_ok-told.ensures.2.grid.least)
+
+pub grid_octets-requires-clause-grid : goal.grid_octets-requires-clause-grid
+grid_octets-requires-clause-grid c = sym (ap is_opaque_grid c.of-parts.ensures.grid) ∙ c.in_ok-told.ensures.2.grid_stated
+
+pub grid_octets-requires-clause-product : goal.grid_octets-requires-clause-product
+grid_octets-requires-clause-product c = sym (ap is_opaque_product c.of-parts.ensures.product) ∙ c.in_ok-told.ensures.2.product_stated
 
 pub returns-in_err-told : goal.returns-in_err-told
 returns-in_err-told c =

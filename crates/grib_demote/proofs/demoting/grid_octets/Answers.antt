@@ -37,16 +37,19 @@ returns-in-Some-coordinate_loss c =
     let forms = ap₂ (λ (x y : List ℕ). first_of (form_losses c.args.keep_local c.args.any_earth x y)) is.local is.grid in
     let s3 = part_octets m i 3 in
     let words = coordinate_list (part_octets m i 4) in
-    let words_are = ap coordinate_loss (c.as_slice-2.ensures ∙ c.in_ok-coordinates.ensures.numbers.coordinates) in
+    let words_are = ap coordinate_loss (c.as_slice-2.ensures ∙ c.in_ok-coordinates.ensures) in
     later_lost (form_losses c.args.keep_local c.args.any_earth (part_octets m i 2) s3) (number_losses s3 (part_octets m i 4)) (sym forms ∙ sym c.form_loss.ensures ∙ c.in_default.is)
     ∙ not_here (grid_loss s3) (coordinate_loss words ∷ []) (sym (ap grid_loss is.grid) ∙ sym c.grid_loss.ensures ∙ c.in_default-grid_loss.is)
     ∙ here_lost (coordinate_loss words) [] c.in-Some-coordinate_loss.loss (sym words_are ∙ sym c.coordinate_loss.ensures ∙ c.in-Some-coordinate_loss.is)
 
 pub grid_section-requires-clause-whole : goal.grid_section-requires-clause-whole
-grid_section-requires-clause-whole c = subst (λ (s : List ℕ). IsWhole s) (sym c.of-parts.ensures.grid) c.of-parts.ensures.holds.grid
+grid_section-requires-clause-whole c = subst (λ (s : List ℕ). IsWhole s) (sym c.of-parts.ensures.grid) (c.of-parts.ensures.holds.grid c.requires.grid)
+
+pub form_loss-requires-clause-whole : goal.form_loss-requires-clause-whole
+form_loss-requires-clause-whole c = subst (λ (s : List ℕ). IsWhole s) (sym c.of-parts.ensures.grid) (c.of-parts.ensures.holds.grid c.requires.grid)
 
 pub grid_section-requires-clause-rows : goal.grid_section-requires-clause-rows
-grid_section-requires-clause-rows c = c.as_slice-4.ensures ∙ c.in_ok-rows.ensures.numbers.rows ∙ sym (ap row_list c.of-parts.ensures.grid)
+grid_section-requires-clause-rows c = c.as_slice-4.ensures ∙ c.in_ok-rows.ensures ∙ sym (ap row_list c.of-parts.ensures.grid)
 
 pub grid_section-requires-clause-few : goal.grid_section-requires-clause-few
 grid_section-requires-clause-few c =
@@ -66,9 +69,9 @@ returns c =
     let forms = ap₂ (λ (x y : List ℕ). first_of (form_losses c.args.keep_local c.args.any_earth x y)) is.local is.grid in
     let s3 = part_octets m i 3 in
     let words = coordinate_list (part_octets m i 4) in
-    let words_are = ap coordinate_loss (c.as_slice-2.ensures ∙ c.in_ok-coordinates.ensures.numbers.coordinates) in (
+    let words_are = ap coordinate_loss (c.as_slice-2.ensures ∙ c.in_ok-coordinates.ensures) in (
       later_lost (form_losses c.args.keep_local c.args.any_earth (part_octets m i 2) s3) (number_losses s3 (part_octets m i 4)) (sym forms ∙ sym c.form_loss.ensures ∙ c.in_default.is)
           ∙ not_here (grid_loss s3) (coordinate_loss words ∷ []) (sym (ap grid_loss is.grid) ∙ sym c.grid_loss.ensures ∙ c.in_default-grid_loss.is)
           ∙ not_here (coordinate_loss words) [] (sym words_are ∙ sym c.coordinate_loss.ensures ∙ c.in_default-coordinate_loss.is),
-      c.in_ok-grid_section.ensures ∙ ap₂ spec.grid_octets (c.as_slice-3.ensures ∙ c.in_ok-coordinates.ensures.numbers.coordinates) is.grid,
+      c.in_ok-grid_section.ensures ∙ ap₂ spec.grid_octets (c.as_slice-3.ensures ∙ c.in_ok-coordinates.ensures) is.grid,
     )

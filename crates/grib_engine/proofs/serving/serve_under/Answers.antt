@@ -6,24 +6,24 @@ use Rattle.grib_dispatch.specs.Hearing.{RefusesInTime}
 use Rattle.grib_dispatch.proofs.HeardMessages.{in_time}
 use Rattle.grib_run_spec.specs.Seen.{seen}
 use Rattle.grib_run_spec.specs.Serving.{Serves}
-use Rattle.grib_run_spec.specs.Tasks.{Makes, IfHears, work_of, writing}
+use Rattle.grib_run_spec.specs.Tasks.{Makes, IfHears, work_under, writing}
 use Rattle.grib_engine.proofs.serving.serve_under.Goals as goal
 
 pub returns-in-Check-clause-soon : goal.returns-in-Check-clause-soon
 returns-in-Check-clause-soon g c = λ nothing.
-    subst (λ job. IfHears job (RefusesInTime c.serve_messages.result (g.S.Source.left c.args.input.now) (g.S.Source.left c.serve_messages.new.input))) (sym c.in-Check.is)
-    (λ hears. in_time (line_of 1 1) line_2 Total c.serve_messages.result _ _ (c.serve_messages.ensures.soon nothing hears))
+    subst (λ job. IfHears job (RefusesInTime c.args.profile c.serve_messages.result (g.S.Source.left c.args.input.now) (g.S.Source.left c.serve_messages.new.input))) (sym c.in-Check.is)
+    (λ hears. in_time c.args.profile (line_of 1 1) line_2 Total c.serve_messages.result _ _ (c.serve_messages.ensures.soon nothing hears))
 
 pub returns-in-List-clause-soon : goal.returns-in-List-clause-soon
 returns-in-List-clause-soon g c = λ nothing.
-    subst (λ job. IfHears job (RefusesInTime c.serve_messages-in-List.result (g.S.Source.left c.args.input.now) (g.S.Source.left c.serve_messages-in-List.new.input))) (sym c.in-List.is)
-    (λ hears. in_time _ _ Silent c.serve_messages-in-List.result _ _ (c.serve_messages-in-List.ensures.soon nothing hears))
+    subst (λ job. IfHears job (RefusesInTime c.args.profile c.serve_messages-in-List.result (g.S.Source.left c.args.input.now) (g.S.Source.left c.serve_messages-in-List.new.input))) (sym c.in-List.is)
+    (λ hears. in_time c.args.profile _ _ Silent c.serve_messages-in-List.result _ _ (c.serve_messages-in-List.ensures.soon nothing hears))
 
 pub returns-in-Make-clause-serves : goal.returns-in-Make-clause-serves
 returns-in-Make-clause-serves g c =
     let see = seen g.S.Source.left g.S.Source.faults g.T.Sink.contents g.T.Sink.faults g.T.Sink.settled g.N.Sink.contents g.N.Sink.faults g.N.Sink.settled g.H.Shelf.contents g.H.Shelf.faults in
     let before = see c.args.input.now c.args.output.now c.args.notes.now c.args.shelf.now in
-    subst (λ job. Serves (g.T.Sink.takes_memory || g.N.Sink.takes_memory) (work_of job) c.args.policy c.serve_made.result before (see c.args.input.now c.serve_made.new.output c.serve_made.new.notes c.args.shelf.now)) (sym c.in-Make.is)
+    subst (λ job. Serves (g.T.Sink.takes_memory || g.N.Sink.takes_memory) (work_under c.args.profile job) c.args.policy c.serve_made.result before (see c.args.input.now c.serve_made.new.output c.serve_made.new.notes c.args.shelf.now)) (sym c.in-Make.is)
     (c.serve_made.ensures before c.args.policy)
 
 pub returns-in-Print-clause-serves : goal.returns-in-Print-clause-serves
@@ -32,5 +32,5 @@ returns-in-Print-clause-serves g c =
     let before = see c.args.input.now c.args.output.now c.args.notes.now c.args.shelf.now in
     let now = see c.args.input.now c.write_noted.new.output c.write_noted.new.notes c.args.shelf.now in
     let text : c.as_bytes.result.now ≡ text_of c.in-Print.page = search rules in
-    subst (λ job. Serves (g.T.Sink.takes_memory || g.N.Sink.takes_memory) (work_of job) c.args.policy c.write_noted.result before now) (sym c.in-Print.is)
+    subst (λ job. Serves (g.T.Sink.takes_memory || g.N.Sink.takes_memory) (work_under c.args.profile job) c.args.policy c.write_noted.result before now) (sym c.in-Print.is)
     (subst (λ octets. Serves (g.T.Sink.takes_memory || g.N.Sink.takes_memory) (Makes (writing octets [])) c.args.policy c.write_noted.result before now) text (c.write_noted.ensures before c.args.policy))

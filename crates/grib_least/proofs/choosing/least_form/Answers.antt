@@ -1,4 +1,5 @@
 use Rattle.std.proofs.Common.{◌≡◌, IfOk, refl, sym, subst}
+use Rattle.grib_base.specs.declared.profile.Profile.TheVariants.{Open}
 use Rattle.grib_packing.specs.declared.written.Packed.{Packed}
 use Rattle.grib2_message.specs.Assembled.{IsShort}
 use Rattle.grib_repack.proofs.Columns.{packable}
@@ -12,11 +13,11 @@ or_packed-requires-clause-column c =
 
 pub size-limit-requires : goal.size-limit-requires
 size-limit-requires c =
-    subst IsShort (sym c.in_ok-own.ensures) (own_short c.args.message.now c.args.field c.requires.message c.requires.first c.requires.last)
+    subst IsShort (sym c.in_ok-own.ensures) (own_short Open c.args.message.now c.args.field c.requires.message c.requires.first c.requires.last)
 
 pub or_packed-requires-clause-short : goal.or_packed-requires-clause-short
 or_packed-requires-clause-short c =
-    subst IsShort (sym c.in_ok-own.ensures) (own_short c.args.message.now c.args.field c.requires.message c.requires.first c.requires.last)
+    subst IsShort (sym c.in_ok-own.ensures) (own_short Open c.args.message.now c.args.field c.requires.message c.requires.first c.requires.last)
 
 pub or_packed-requires-2-clause-column : goal.or_packed-requires-2-clause-column
 or_packed-requires-2-clause-column c =

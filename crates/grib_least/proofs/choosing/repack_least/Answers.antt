@@ -2,7 +2,7 @@ use Rattle.std.proofs.Common.{◌≡◌, ◌<◌, List, length, ap, ◌∙◌, a
 use Rattle.std.proofs.lemmas.Result.{IfOk-weaker}
 use Rattle.std.proofs.lemmas.List.FromFn.{length-map-range_with_len}
 use Rattle.grib_packing.specs.declared.written.Packed.{Packed}
-use Rattle.grib_base.specs.declared.profile.Profile.TheVariants.{Stated}
+use Rattle.grib_base.specs.declared.profile.Profile.TheVariants.{Open}
 use Rattle.grib2_message.specs.Fields.{field_count}
 use Rattle.grib2_message.specs.Assembled.{assembled}
 use Rattle.grib2_message.proofs.Parted.{message_most}
@@ -23,5 +23,5 @@ returns-in-Err-TooLong c =
     let long : 268435456 < length (assembled m (least_forms m)) =
     omega (arith, same, long_by (length (assembled m c.deref.result.now)) fault.field-0-0 fault.field-0 fault.field-0-is fault.ensures) in
     IfOk-weaker c.to_vec.result _ (λ out. out.items ≡ least m)
-    (λ out copied. copied (λ x y e. e) ∙ c.octets-octets.ensures.octets ∙ too_long m (assembled m (least_forms m)) (message_most Stated m c.octets-octets.ensures.message) long)
+    (λ out copied. copied (λ x y e. e) ∙ c.octets-octets.ensures.octets ∙ too_long m (assembled m (least_forms m)) (message_most Open m c.octets-octets.ensures.message) long)
     c.to_vec.ensures.items_if_clones_equal

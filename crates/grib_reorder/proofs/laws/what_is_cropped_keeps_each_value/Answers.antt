@@ -9,19 +9,19 @@ use Rattle.grib_reorder.specs.declared.edit.GridEdit.TheVariants.{Crop}
 use Rattle.grib_reorder.proofs.laws.what_is_cropped_keeps_each_value.Goals as goal
 
 pub returns-clause-entries : goal.returns-clause-entries
-returns-clause-entries c = λ area message may i low high x y small few.
+returns-clause-entries c = λ profile area message may i low high x y small few.
     let s = part_octets message i 3 in
-    ap (λ (column : Column). point column.points (y * width area + x)) (c.what_is_edited_is_accepted.ensures.columns (Crop area) message may i low high)
+    ap (λ (column : Column). point column.points (y * width area + x)) (c.what_is_edited_is_accepted.ensures.columns profile (Crop area) message may i low high)
     ∙ box_at (scanning_of 0) (octets s 31 34) (octets s 35 38) (column_of message i).points area.i0 (width area) area.j0 (height area) x y small few
 
 pub returns-clause-reference : goal.returns-clause-reference
-returns-clause-reference c = λ area message may i low high.
-    ap (λ (column : Column). column.reference) (c.what_is_edited_is_accepted.ensures.columns (Crop area) message may i low high)
+returns-clause-reference c = λ profile area message may i low high.
+    ap (λ (column : Column). column.reference) (c.what_is_edited_is_accepted.ensures.columns profile (Crop area) message may i low high)
 
 pub returns-clause-binary_scale : goal.returns-clause-binary_scale
-returns-clause-binary_scale c = λ area message may i low high.
-    ap (λ (column : Column). column.e) (c.what_is_edited_is_accepted.ensures.columns (Crop area) message may i low high)
+returns-clause-binary_scale c = λ profile area message may i low high.
+    ap (λ (column : Column). column.e) (c.what_is_edited_is_accepted.ensures.columns profile (Crop area) message may i low high)
 
 pub returns-clause-decimal_scale : goal.returns-clause-decimal_scale
-returns-clause-decimal_scale c = λ area message may i low high.
-    ap (λ (column : Column). column.d) (c.what_is_edited_is_accepted.ensures.columns (Crop area) message may i low high)
+returns-clause-decimal_scale c = λ profile area message may i low high.
+    ap (λ (column : Column). column.d) (c.what_is_edited_is_accepted.ensures.columns profile (Crop area) message may i low high)

@@ -1,6 +1,6 @@
 use Rattle.std.proofs.Common.{◌≡◌, ℕ, Bool, List, length, ap, sym, ◌∙◌, arith, subst}
 use Rattle.std.proofs.lemmas.List.{length-map}
-use Rattle.grib_base.specs.declared.profile.Profile.TheVariants.{Stated}
+use Rattle.grib_base.specs.declared.profile.Profile.TheVariants.{Open}
 use Rattle.grib2_grids.specs.Grid.{grid_points}
 use Rattle.grib_packing.specs.Column.{points_with_mask}
 use Rattle.grib_packing.specs.Entries.{entries_of}
@@ -35,12 +35,12 @@ returns-clause-words c =
 
 pub returns-clause-some : goal.returns-clause-some
 returns-clause-some c =
-    let bounds = points_bounds Stated (part_octets c.args.message.now c.args.field 3) c.in_ok-mask.ensures.passes.grid in
+    let bounds = points_bounds Open (part_octets c.args.message.now c.args.field 3) c.in_ok-mask.ensures.passes.grid in
     let long = as_long c.args.message.now c.args.field c.in_ok-mask.mask c.in_ok-kept.kept c.in_ok-all.all c.in_ok-mask.ensures.mask c.in_ok-kept.ensures.words c.in_ok-all.ensures c.in_ok-mask.ensures.long in
     omega (arith, long, bounds.0)
 
 pub returns-clause-few : goal.returns-clause-few
 returns-clause-few c =
-    let bounds = points_bounds Stated (part_octets c.args.message.now c.args.field 3) c.in_ok-mask.ensures.passes.grid in
+    let bounds = points_bounds Open (part_octets c.args.message.now c.args.field 3) c.in_ok-mask.ensures.passes.grid in
     let long = as_long c.args.message.now c.args.field c.in_ok-mask.mask c.in_ok-kept.kept c.in_ok-all.all c.in_ok-mask.ensures.mask c.in_ok-kept.ensures.words c.in_ok-all.ensures c.in_ok-mask.ensures.long in
     omega (arith, long, bounds.1)

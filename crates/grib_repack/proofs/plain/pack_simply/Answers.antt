@@ -1,5 +1,5 @@
 use Rattle.std.proofs.Common.{◌≡◌, ℕ, Bool, List, length, map, sym, ap, ◌∙◌, refl, Ok, arith, subst, subst₂}
-use Rattle.grib_base.specs.declared.profile.Profile.TheVariants.{Stated}
+use Rattle.grib_base.specs.declared.profile.Profile.TheVariants.{Open}
 use Rattle.grib2_grids.specs.Grid.{grid_points}
 use Rattle.grib_packing.specs.Column.{points_with_mask}
 use Rattle.grib_packing.specs.declared.column.Column.{Column}
@@ -40,7 +40,7 @@ pack_numbers-requires-clause-within c =
 
 pub pack_numbers-requires-clause-few : goal.pack_numbers-requires-clause-few
 pack_numbers-requires-clause-few c =
-    let bounds = points_bounds Stated (part_octets c.args.message.now c.args.field 3) c.part.ensures.passes.grid in
+    let bounds = points_bounds Open (part_octets c.args.message.now c.args.field 3) c.part.ensures.passes.grid in
     omega (arith, c.in_ok-mask.ensures.long, bounds.1)
 
 pub pack_numbers-requires-clause-present : goal.pack_numbers-requires-clause-present

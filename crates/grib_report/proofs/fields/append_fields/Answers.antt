@@ -6,7 +6,7 @@ pub returns-in_err-append : goal.returns-in_err-append
 returns-in_err-append g c = record {
   octets = record {
     whole = search rules;
-    front = field_refused _ _ _ c.args.lines.now.items c.loop-index.lines.items (g.F.FieldPrinter.text c.args.printer.now c.args.message.now c.args.number) c.loop-index.index _ _ (omega arith) (omega arith)
+    front = field_refused _ _ _ c.args.lines.now.items c.loop-index.lines.items (g.F.FieldTexts.text c.args.texts.now) c.loop-index.index _ _ (omega arith) (omega arith)
         c.loop-index.invariant.appended c.append.ensures.octets.front;
   };
   counted = search rules;
@@ -15,7 +15,7 @@ returns-in_err-append g c = record {
 
 pub loop-index-preserved : goal.loop-index-preserved
 loop-index-preserved g c = record {
-  appended = field_written _ _ _ c.args.lines.now.items c.loop-index.lines.items _ (g.F.FieldPrinter.text c.args.printer.now c.args.message.now c.args.number) c.loop-index.index _ (omega arith)
+  appended = field_written _ _ _ c.args.lines.now.items c.loop-index.lines.items _ (g.F.FieldTexts.text c.args.texts.now) c.loop-index.index _ (omega arith)
       c.loop-index.invariant.appended c.in_ok-append.ensures.octets.whole;
   faults_stay = c.in_ok-append.ensures.counted ∙ c.loop-index.invariant.faults_stay;
   unfinished = λ all. c.loop-index.invariant.unfinished (c.in_ok-append.ensures.unfinished all);

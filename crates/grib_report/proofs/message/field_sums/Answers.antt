@@ -5,14 +5,14 @@ use Rattle.grib_bitmap.specs.Mask.{present_count}
 use Rattle.grib_packing.specs.Column.{points_with_mask}
 use Rattle.grib_packing.specs.Entries.{entries_of}
 use Rattle.grib_decimal.specs.Summary.{summary_of}
-use Rattle.grib_base.specs.declared.profile.Profile.TheVariants.{Stated}
+use Rattle.grib_base.specs.declared.profile.Profile.TheVariants.{Open}
 use Rattle.grib2_message.specs.Fields.{part_octets}
 use Rattle.grib2_message.proofs.Masks.{points_bounds}
 use Rattle.grib_report.proofs.message.field_sums.Goals as goal
 
 pub placed-requires-clause-few : goal.placed-requires-clause-few
 placed-requires-clause-few c =
-    let bounds = points_bounds Stated (part_octets c.args.message.now c.args.field 3) c.mask.ensures.passes.grid in
+    let bounds = points_bounds Open (part_octets c.args.message.now c.args.field 3) c.mask.ensures.passes.grid in
     omega (arith, c.in_ok-mask.ensures.long, bounds.1)
 
 pub placed-requires-clause-sums : goal.placed-requires-clause-sums
@@ -20,7 +20,7 @@ placed-requires-clause-sums c =
     let m = c.args.message.now in
     let i = c.args.field in
     let entries = entries_of (part_octets m i 5) (part_octets m i 7) in
-    let bounds = points_bounds Stated (part_octets m i 3) c.mask.ensures.passes.grid in
+    let bounds = points_bounds Open (part_octets m i 3) c.mask.ensures.passes.grid in
     let few : length c.in_ok-mask.mask ≤ MOST_POINTS = omega (arith, c.in_ok-mask.ensures.long, bounds.1) in
     let short : length entries ≤ MOST_POINTS =
     omega (arith, c.in_ok-summed.ensures.count, c.in_ok-mask.ensures.values, count_by-le-length (λ (b : Bool). b) c.in_ok-mask.mask, few) in
@@ -33,7 +33,7 @@ returns c =
     let m = c.args.message.now in
     let i = c.args.field in
     let entries = entries_of (part_octets m i 5) (part_octets m i 7) in
-    let bounds = points_bounds Stated (part_octets m i 3) c.mask.ensures.passes.grid in
+    let bounds = points_bounds Open (part_octets m i 3) c.mask.ensures.passes.grid in
     let few : length c.in_ok-mask.mask ≤ MOST_POINTS = omega (arith, c.in_ok-mask.ensures.long, bounds.1) in
     let short : length entries ≤ MOST_POINTS =
     omega (arith, c.in_ok-summed.ensures.count, c.in_ok-mask.ensures.values, count_by-le-length (λ (b : Bool). b) c.in_ok-mask.mask, few) in

@@ -3,4 +3,4 @@ use Rattle.grib_run_law.proofs.Judged.{job_judges}
 use Rattle.grib_run_law.proofs.laws.what_a_run_answers_is_in_the_grammar.Goals as goal
 
 pub returns : goal.returns
-returns c = job_judges (stands c.items_stand.ensures.items)
+returns c = λ profile. job_judges profile (stands profile c.items_stand.ensures.items)

@@ -1,4 +1,5 @@
 use Rattle.std.proofs.Common.{refl}
+use Rattle.grib_command.specs.Command.{under}
 use Rattle.grib_edit.specs.Filtering.{filter_command}
 use Rattle.grib_run_law.specs.Answered.{items_of}
 use Rattle.grib_run_law.specs.Same.{IsFiltered}
@@ -11,8 +12,8 @@ use Rattle.grib_run_law.proofs.laws.what_is_filtered_keeps_each_column.Goals as 
 pub returns : goal.returns
 returns c =
     let law = c.what_is_cut_out_keeps_its_column.ensures in
-    λ conditions policy more octets.
-    writes_items (IsFiltered conditions) (filter_command conditions) policy (λ totals. refl) (filter_fixed conditions)
-    (filter_each
-    (λ message i is low high. record { accepted = law.accepted message i is low high; one = law.one message i is low high; column = law.column message i is low high }) conditions)
-    more octets (accepted_all more octets (items_of policy more octets).items (stands c.items_stand.ensures.items policy more octets))
+    λ profile conditions policy more octets.
+    writes_items (IsFiltered profile conditions) (under profile (filter_command conditions)) policy (λ totals. refl) (filter_fixed conditions)
+    (filter_each profile
+    (λ message i is low high. record { accepted = law.accepted profile message i is low high; one = law.one profile message i is low high; column = law.column profile message i is low high }) conditions)
+    more octets (accepted_all profile more octets (items_of profile policy more octets).items (stands profile c.items_stand.ensures.items policy more octets))

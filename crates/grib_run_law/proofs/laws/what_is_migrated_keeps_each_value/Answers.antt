@@ -1,4 +1,5 @@
 use Rattle.std.proofs.Common.{refl}
+use Rattle.grib_command.specs.Command.{under}
 use Rattle.grib_edit.specs.Migrating.{migrate_command}
 use Rattle.grib_run_law.specs.Answered.{items_of}
 use Rattle.grib_run_law.specs.Same.{SameMigrated, IfOctets}
@@ -9,6 +10,6 @@ use Rattle.grib_run_law.proofs.Writing.{writes_items}
 use Rattle.grib_run_law.proofs.laws.what_is_migrated_keeps_each_value.Goals as goal
 
 pub returns : goal.returns
-returns c = λ local table surfaces policy more octets.
-    writes_items (IfOctets SameMigrated) (migrate_command local table surfaces) policy (λ totals. refl) (migrate_fixed local table surfaces) (migrate_each local table surfaces) more octets
-    (accepted_all more octets (items_of policy more octets).items (stands c.items_stand.ensures.items policy more octets))
+returns c = λ profile local table surfaces policy more octets.
+    writes_items (IfOctets (SameMigrated profile)) (under profile (migrate_command local table surfaces)) policy (λ totals. refl) (migrate_fixed local table surfaces) (migrate_each profile local table surfaces) more octets
+    (accepted_all profile more octets (items_of profile policy more octets).items (stands profile c.items_stand.ensures.items policy more octets))

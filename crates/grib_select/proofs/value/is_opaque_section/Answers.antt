@@ -1,4 +1,4 @@
-use Rattle.std.proofs.Common.{◌≤◌, length, sym, refl}
+use Rattle.std.proofs.Common.{sym, refl}
 use Rattle.grib_keys.specs.declared.key.Key.TheVariants.{GridTemplate, ProductTemplate, Packing}
 use Rattle.grib_select.proofs.value.is_opaque_section.Goals as goal
 

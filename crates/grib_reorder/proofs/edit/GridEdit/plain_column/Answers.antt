@@ -1,4 +1,5 @@
 use Rattle.std.proofs.Common.{◌≡◌, ℕ, ◌*◌, None, sym, ap₂, ◌∙◌, arith, subst}
+use Rattle.grib_base.specs.declared.profile.Profile.TheVariants.{Stated}
 use Rattle.grib_rescan.proofs.Added.{all_added}
 use Rattle.grib_rescan.proofs.Uncaused.{can_be_cut, can_be_rescanned}
 use Rattle.grib_reorder.specs.declared.edit.GridEdit.{GridEdit}
@@ -9,14 +10,14 @@ pub rescan_columns-requires-clause-length : goal.rescan_columns-requires-clause-
 rescan_columns-requires-clause-length c =
     let s = c.args.section3.now in
     let uncaused = subst (λ (edit : GridEdit). cause_of edit s ≡ None) c.in-Rescan.is c.requires.uncaused in
-    let is = can_be_rescanned s c.requires.accepted uncaused in
+    let is = can_be_rescanned Stated s c.requires.accepted uncaused in
     all_added c.args.field.now.numbers ∙ c.requires.field.count ∙ sym is.product ∙ sym (ap₂ (λ (a b : ℕ). a * b) c.u32_at-ni.ensures c.u32_at-nj.ensures)
 
 pub crop_points-requires-clause-length : goal.crop_points-requires-clause-length
 crop_points-requires-clause-length c =
     let s = c.args.section3.now in
     let uncaused = subst (λ (edit : GridEdit). cause_of edit s ≡ None) c.in-Crop.is c.requires.uncaused in
-    let can = can_be_cut c.in-Crop.area s c.requires.accepted uncaused in
+    let can = can_be_cut Stated c.in-Crop.area s c.requires.accepted uncaused in
     all_added c.args.field.now.numbers ∙ c.requires.field.count ∙ sym can.lat_lon.product ∙ sym (ap₂ (λ (a b : ℕ). a * b) c.u32_at-ni.ensures c.u32_at-nj.ensures)
 
 pub crop_points-requires-clause-within : goal.crop_points-requires-clause-within
@@ -24,7 +25,7 @@ crop_points-requires-clause-within c =
     let s = c.args.section3.now in
     let stands = subst Stands c.in-Crop.is c.requires.stands in
     let uncaused = subst (λ (edit : GridEdit). cause_of edit s ≡ None) c.in-Crop.is c.requires.uncaused in
-    let can = can_be_cut c.in-Crop.area s c.requires.accepted uncaused in
+    let can = can_be_cut Stated c.in-Crop.area s c.requires.accepted uncaused in
     record {
       columns = stands.0;
       rows = stands.1;

@@ -4,5 +4,5 @@ use Rattle.grib_report.proofs.checking.CheckingWriter.heard.Goals as goal
 
 pub returns : goal.returns
 returns g c =
-    λ hears octets heard whole.
-    by_printing g.T.Sink.contents g.T.Sink.faults g.T.Sink.settled c.write_heard.result c.printed.result _ _ _ _ _ c.printed.ensures refl (c.write_heard.ensures octets heard whole)
+    λ hears profile octets heard whole.
+    by_printing g.T.Sink.contents g.T.Sink.faults g.T.Sink.settled c.write_heard.result c.printed.result _ _ _ _ _ c.printed.ensures refl (c.write_heard.ensures profile octets heard whole)

@@ -7,7 +7,7 @@ use Rattle.grib_report.proofs.listing.ListingPrinter.write_heard.Goals as goal
 
 pub returns-in_err-lines : goal.returns-in_err-lines
 returns-in_err-lines g c =
-    λ hears octets heard whole. record {
+    λ hears profile octets heard whole. record {
       octets = record {
         whole = on_refused c.from_residual.result _ c.from_residual.ensures.0;
         front = ([], _, refl, Appends-nil (g.T.Sink.contents c.args.output.now));
@@ -18,8 +18,8 @@ returns-in_err-lines g c =
 
 pub returns : goal.returns
 returns g c =
-    λ hears octets heard whole.
-    let done = c.in_ok-append_heard.ensures octets heard whole in
+    λ hears profile octets heard whole.
+    let done = c.in_ok-append_heard.ensures profile octets heard whole in
     record {
       octets =
           pending_written c.write_whole.result _ _ _ _ _ c.as_slice.result.now

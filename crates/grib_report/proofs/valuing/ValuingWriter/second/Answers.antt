@@ -1,15 +1,13 @@
-use Rattle.std.proofs.Common.{◌≡◌, None, sym, ap, ◌∙◌}
-use Rattle.grib2_message.specs.Fields.{field_count}
-use Rattle.grib_command.specs.Command.{texts_from}
-use Rattle.grib_report.specs.Valuing.{cause_2, value_text, text_unless}
-use Rattle.grib_command.proofs.Answers.{by_printing}
+use Rattle.grib_report.specs.Valuing.{second_given}
+use Rattle.grib_command.proofs.Readable.{by_read, by_opaque}
 use Rattle.grib_report.proofs.valuing.ValuingWriter.second.Goals as goal
 
-pub returns-in-Ok-None : goal.returns-in-Ok-None
-returns-in-Ok-None g c =
-    let places = c.args.self.now.places in
-    let message = c.args.message.now in
-    let m = c.args.place.now.message in
-    let none : cause_2 places message ≡ None = sym c.in-Ok-None.ensures ∙ c.in-Ok-None.field-0-is in
-    by_printing g.T.Sink.contents g.T.Sink.faults g.T.Sink.settled c.write_fields.result c.printed.result m _ (texts_from (value_text places message m) (field_count message) 1) _ _
-    c.printed.ensures (ap (λ o. text_unless o m (texts_from (value_text places message m) (field_count message) 1)) none) c.write_fields.ensures
+pub returns-in-Ok : goal.returns-in-Ok
+returns-in-Ok g c =
+    by_read g.T.Sink.contents g.T.Sink.faults g.T.Sink.settled c.write_second.result (second_given c.args.self.now.places)
+    c.args.place.now c.args.message.now c.in-Ok.message _ _ c.in-Ok.ensures.0 c.in-Ok.ensures.2 c.write_second.ensures
+
+pub returns-in-Err : goal.returns-in-Err
+returns-in-Err g c =
+    by_opaque g.T.Sink.contents g.T.Sink.faults g.T.Sink.settled c.unreadable.result (second_given c.args.self.now.places)
+    c.args.place.now c.args.message.now c.in-Err.opaque _ c.unreadable.ensures c.in-Err.ensures
