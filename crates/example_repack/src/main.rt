@@ -13,7 +13,7 @@ fn main(rt: HostRuntime) -> anyhow::Result<()> {
         match message.edition_2() {
             Some(second) => rt
                 .stdout()
-                .write_all(&repack(alloc, second, RepackTarget::Spatial(2))?)?,
+                .write_all(&repack(alloc, &second, RepackTarget::Spatial(2))?)?,
             None => rt.stdout().write_all(message.octets())?,
         }
     }

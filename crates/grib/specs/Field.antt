@@ -1,5 +1,5 @@
 -- What a field of either edition holds.
-use Rattle.std.specs.Prelude.{◌≡◌, ℕ, Option, None, Some, List}
+use Rattle.std.specs.Prelude.{◌≡◌, ℕ, true, Option, None, Some, List}
 use Rattle.grib_dyadic.specs.Reference.{Binary, ieee, ibm, reduced}
 use Rattle.grib_keys.specs.declared.key.Key.{Key}
 use Rattle.grib_keys.specs.declared.condition.Value.{Value as KeyValue}
@@ -9,8 +9,10 @@ use Rattle.grib1_sections.specs.Keys.{key1_of}
 use Rattle.grib1_sections.specs.Column.{column1_of}
 use Rattle.grib1_sections.specs.Acceptance.{points_of}
 use Rattle.grib2_grids.specs.Grid.{grid_points}
+use Rattle.grib2_grids.specs.Opaque.{is_opaque_grid}
 use Rattle.grib2_grids.specs.Spelled as grids
 use Rattle.grib2_grids.specs.declared.grid.GridSection.{GridSection}
+use Rattle.grib2_products.specs.Opaque.{is_opaque_product}
 use Rattle.grib2_products.specs.Spelled as products
 use Rattle.grib2_products.specs.declared.product.ProductSection.{ProductSection}
 use Rattle.grib2_message.specs.Fields.{column_of, part_octets}
@@ -45,21 +47,21 @@ key1_in field key = number_of field.message key
 
 abbrev pub IsGrid : Held → ℕ → Option GridSection → Type 0
 IsGrid (Two message) number (Some grid) = grids.Spelled grid (part_octets message number 3)
-IsGrid (Two message) number None = ⊥
+IsGrid (Two message) number None = is_opaque_grid (part_octets message number 3) ≡ true
 IsGrid (One message) number (Some grid) = ⊥
 IsGrid (One message) number None = Unit {0}
 
--- the grid is what Section 3 says; edition 1 has none of these
+-- the grid is what Section 3 says; an opaque grid and edition 1 have none of these
 abbrev pub IsGridOf : FieldOf → Option GridSection → Type 0
 IsGridOf field grid = IsGrid field.message field.number grid
 
 abbrev pub IsProduct : Held → ℕ → Option ProductSection → Type 0
 IsProduct (Two message) number (Some product) = products.Spelled product (part_octets message number 4)
-IsProduct (Two message) number None = ⊥
+IsProduct (Two message) number None = is_opaque_product (part_octets message number 4) ≡ true
 IsProduct (One message) number (Some product) = ⊥
 IsProduct (One message) number None = Unit {0}
 
--- the product is what Section 4 says; edition 1 has none of these
+-- the product is what Section 4 says; an opaque product and edition 1 have none of these
 abbrev pub IsProductOf : FieldOf → Option ProductSection → Type 0
 IsProductOf field product = IsProduct field.message field.number product
 

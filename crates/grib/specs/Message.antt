@@ -2,6 +2,7 @@
 use Rattle.std.specs.Prelude.{◌≡◌, ℕ, true, false, Option, None, Some, List, map, length, take}
 use Rattle.std.specs.List.{range_with_len}
 use Rattle.grib_base.specs.declared.fault.Fault.{Fault}
+use Rattle.grib_base.specs.declared.profile.Profile.TheVariants.{Stated}
 use Rattle.grib_stream.specs.Stream.{Faulty, begins}
 use Rattle.grib2_message.specs.Fields.{field_count}
 use Rattle.grib_command.specs.Judging.{judge}
@@ -13,7 +14,7 @@ use Rattle.grib.specs.declared.fault.ReadError.TheVariants.{NoMessage, Refused, 
 
 -- the octets begin with `GRIB`, and from there on with this message
 abbrev pub BeginsWith : List ℕ → Held → Type 0
-BeginsWith octets message = (begins octets ≡ true) × Holds octets message
+BeginsWith octets message = (begins octets ≡ true) × Holds Stated octets message
 
 -- why octets that stand at this place of an input begin with no message; no memory says nothing of them
 abbrev pub IsReadError : List ℕ → ℕ → ReadError → Type 0

@@ -1,6 +1,7 @@
 -- The messages of some octets: the next begins at the first `GRIB` of what is left.
 use Rattle.std.specs.Prelude.{◌≡◌, ℕ, ◌+◌, ◌-◌, true, Option, None, Some, Result, Ok, Err, List, [], ◌∷◌, length, drop}
 use Rattle.grib_base.specs.Rows.{choose}
+use Rattle.grib_base.specs.declared.profile.Profile.TheVariants.{Stated}
 use Rattle.grib_stream.specs.Stream.{begins}
 use Rattle.grib_dispatch.specs.Reading.{Holds, held_octets}
 use Rattle.grib_dispatch.specs.declared.reading.Held.{Held}
@@ -23,7 +24,7 @@ mark_place left = left.place + (length left.octets - length (from_mark left.octe
 
 -- a message: it stands at the first `GRIB`, and what is left is what stands behind it
 pub record Gives (before : Left) (message : Held) (after : Left) : Type 0 where
-  pub holds : Holds (from_mark before.octets) message
+  pub holds : Holds Stated (from_mark before.octets) message
   pub octets : after.octets ≡ drop (length (held_octets message)) (from_mark before.octets)
   pub place : after.place ≡ mark_place before + length (held_octets message)
 

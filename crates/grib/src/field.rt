@@ -4,8 +4,12 @@ ghost use Rattle.std.specs.Prelude.{◌≡◌, ◌≤◌, MatchOption, IfOk, Non
 ghost use Rattle.grib_base.specs.declared.limits.TheConstants.{MOST_POINTS};
 ghost use Rattle.grib1_sections.specs.Acceptance.{points_of};
 ghost use Rattle.grib1_sections.specs.Column.{column1_of};
+ghost use Rattle.grib2_grids.specs.Grid.{grid_points};
+ghost use Rattle.grib2_message.specs.Fields.{field_count, part_octets, column_of};
+ghost use Rattle.grib2_message.specs.Message.{IsMessage, FieldReads};
 ghost use Rattle.grib.specs.Message.{field_count_in};
 
+use crate::readable::readable;
 use crate::{Message, Values};
 use grib_dispatch::Held;
 use grib_dyadic::Dyadic;
@@ -14,6 +18,7 @@ use grib_packing::Column;
 use grib_select::{key_value, single};
 use grib1_sections::{Key1, Message1};
 use grib2_grids::GridSection;
+use grib2_message::Message as Message2;
 use grib2_products::ProductSection;
 use std::alloc::{AllocError, Global};
 
@@ -78,7 +83,7 @@ impl<'m, 'a> Field<'m, 'a> {
         }
     }
 
-    /// The grid: what Section 3 of edition 2 says. `None` in edition 1.
+    /// The grid: what Section 3 of edition 2 says. `None` where the grid is opaque, and in edition 1.
     ///
     /// # Errors
     ///
@@ -88,11 +93,11 @@ impl<'m, 'a> Field<'m, 'a> {
     {
         match self.message.held() {
             Held::One(_) => Ok(None),
-            Held::Two(message) => Ok(Some(message.grid(alloc, self.number)?)),
+            Held::Two(message) => message.grid(alloc, self.number),
         }
     }
 
-    /// The product: what Section 4 of edition 2 says. `None` in edition 1.
+    /// The product: what Section 4 of edition 2 says. `None` where the product is opaque, and in edition 1.
     ///
     /// # Errors
     ///
@@ -102,7 +107,7 @@ impl<'m, 'a> Field<'m, 'a> {
     {
         match self.message.held() {
             Held::One(_) => Ok(None),
-            Held::Two(message) => Ok(Some(message.product(alloc, self.number)?)),
+            Held::Two(message) => message.product(alloc, self.number),
         }
     }
 
@@ -119,7 +124,7 @@ impl<'m, 'a> Field<'m, 'a> {
     {
         match self.message.held() {
             Held::One(message) => first_column(alloc, message),
-            Held::Two(message) => message.column(alloc, self.number),
+            Held::Two(message) => second_column(alloc, message, self.number),
         }
     }
 
@@ -139,7 +144,7 @@ impl<'m, 'a> Field<'m, 'a> {
                 Ok(Values::of(Dyadic::from_ibm(column.reference), column))
             }
             Held::Two(message) => {
-                let column = message.column(alloc, self.number)?;
+                let column = second_column(alloc, message, self.number)?;
                 let Ok(reference) = Dyadic::from_ieee(column.reference) else {
                     unreachable!();
                 };
@@ -186,4 +191,17 @@ fn first_column(alloc: Global, message: &Message1<'_>) -> Result<Column, AllocEr
     // So its sections are known to pass.
     message.octets();
     message.column1(alloc)
+}
+
+/// The points of a field of a message of edition 2, with an entry for each point of its grid.
+fn second_column(alloc: Global, message: &Message2<'_>, number: u32) -> Result<Column, AllocError>
+    requires accepted { IsMessage message.now }
+    requires first { 1 ≤ number }
+    requires last { number ≤ field_count message.now }
+    ensures column { IfOk result (λ column. column ≡ column_of message.now number) }
+    ensures count { IfOk result (λ column. length column.points ≡ grid_points (part_octets message.now number 3)) }
+    ensures few { IfOk result (λ column. length column.points ≤ MOST_POINTS) }
+    ensures passes { FieldReads message.now number }
+{
+    readable(message).column(alloc, number)
 }

@@ -2,15 +2,17 @@
 
 ghost use Rattle.std.specs.Prelude.{◌≡◌, ◌≤◌, true, length, MatchResult, MatchOption, None, Some};
 ghost use Rattle.grib_stream.specs.Stream.{begins};
-ghost use Rattle.grib_dispatch.specs.Reading.{held_octets};
+ghost use Rattle.grib_base.specs.declared.profile.Profile.TheVariants.{Stated};
+ghost use Rattle.grib_dispatch.specs.Reading.{IsHeld, held_octets};
 ghost use Rattle.grib.specs.Message.{BeginsWith, IsReadError, edition_of, field_count_in, fields_in, first_of, second_of};
 ghost use Rattle.grib.specs.Fields.{fields_left};
 
+use crate::readable::readable;
 use crate::{Fields, ReadError};
-use grib_base::ReadFault;
+use grib_base::{Profile, ReadFault};
 use grib_dispatch::{Held, read_held};
 use grib1_sections::Message1;
-use grib2_message::Message as Message2;
+use grib2_message::ReadableMessage;
 use std::alloc::Global;
 use std::marker::Model;
 
@@ -22,6 +24,7 @@ pub struct Message<'a> {
 }
 
 impl<'a> Model for Message<'a> {
+    ghost use Rattle.grib_base.specs.declared.profile.Profile.TheVariants.{Stated};
     ghost use Rattle.grib_dispatch.specs.Reading.{IsHeld};
     ghost use Rattle.grib_dispatch.specs.declared.reading.Held.{Held};
 
@@ -29,7 +32,7 @@ impl<'a> Model for Message<'a> {
 
     ghost view = { λ message. message.held };
 
-    ghost invariant = { λ message. IsHeld message.held };
+    ghost invariant = { λ message. IsHeld Stated message.held };
 }
 
 /// Reads the message that these octets begin with; what stands behind it is not looked at.
@@ -53,7 +56,7 @@ impl<'a> Message<'a> {
         requires { begins octets.now ≡ true }
         ensures { MatchResult result (BeginsWith octets.now) (IsReadError octets.now place) }
     {
-        match read_held(alloc, octets) {
+        match read_held(alloc, Profile::Stated, octets) {
             Ok(held) => Ok(Message { held }),
             Err(ReadFault::Refused(fault)) => Err(ReadError::Refused { place, fault }),
             Err(ReadFault::Memory) => Err(ReadError::Memory),
@@ -62,7 +65,8 @@ impl<'a> Message<'a> {
 
     /// The message by its edition.
     pub(crate) fn held(&self) -> &Held<'a>
-        ensures { result.now ≡ self.now }
+        ensures held { result.now ≡ self.now }
+        ensures accepted { IsHeld Stated self.now }
     {
         &self.held
     }
@@ -116,12 +120,12 @@ impl<'a> Message<'a> {
     }
 
     /// The message, where it is of edition 2, for what only edition 2 has: `repack`.
-    pub fn edition_2(&self) -> Option<&Message2<'a>>
-        ensures { MatchOption result (second_of self.now ≡ None) (λ message. second_of self.now ≡ Some message.now) }
+    pub fn edition_2(&self) -> Option<ReadableMessage<'_>>
+        ensures { MatchOption result (second_of self.now ≡ None) (λ message. second_of self.now ≡ Some message) }
     {
         match &self.held {
             Held::One(_) => None,
-            Held::Two(message) => Some(message),
+            Held::Two(message) => Some(readable(message)),
         }
     }
 

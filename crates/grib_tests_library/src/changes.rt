@@ -49,13 +49,13 @@ fn a_message_is_repacked(rt: HostRuntime) -> Result<(), Fail> {
         return Err(Fail::from("another edition"));
     };
     assert!(rt; message.edition_1().is_none());
-    let octets = repack(alloc, second, RepackTarget::Spatial(2))?;
+    let octets = repack(alloc, &second, RepackTarget::Spatial(2))?;
     assert_eq!(rt; octets.as_slice(), to.as_slice());
     let message = read(alloc, octets.as_slice())?;
     let Some(second) = message.edition_2() else {
         return Err(Fail::from("another edition"));
     };
-    let octets = repack(alloc, second, RepackTarget::Spatial(2))?;
+    let octets = repack(alloc, &second, RepackTarget::Spatial(2))?;
     assert_eq!(rt; octets.as_slice(), to.as_slice());
     Ok(())
 }
