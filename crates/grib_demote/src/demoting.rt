@@ -196,7 +196,11 @@ fn add_rows(rows: &[u32], out: &mut Vec<u8>) -> Result<(), AllocError>
 
 /// Sections 5, 6 and 7 of a field in simple packing, or the loss of its reference value or of its first point that
 /// does not fit. No column is made of a field that stands in simple packing.
-fn pack_simply(alloc: Global, message: &ReadableMessage<'_>, field: u32) -> Result<Packed, DemoteFault>
+fn pack_simply(
+    alloc: Global,
+    message: &ReadableMessage<'_>,
+    field: u32,
+) -> Result<Packed, DemoteFault>
     requires first { 1 ≤ field }
     requires last { field ≤ field_count message.now }
     ensures { MatchResult result
