@@ -2,7 +2,6 @@
 use Rattle.std.proofs.Common.{◌≡◌, ℕ, ◌==◌, cond, List, ◌++◌, ap, ◌∙◌, ne_eqb}
 use Rattle.grib_bits.specs.Octets.{octets}
 use Rattle.grib2_grids.specs.Grid.{grid_template}
-use Rattle.grib_demote.specs.declared.tested.Tested.{Tested}
 use Rattle.grib_migrate.specs.Grids.{true_latitude}
 use Rattle.grib_demote.specs.Grids.{four, lat_lon_tested, mercator_tested, polar_tested, lambert_tested, tested_numbers, lat_lon, mercator, polar, polar_end, lambert, template_numbers}
 

@@ -1,5 +1,5 @@
 -- Losses and octets one after another.
-use Rattle.std.proofs.Common.{◌≡◌, ℕ, ◌+◌, ◌<◌, ◌≤◌, ◌==◌, ◌&&◌, ◌||◌, not, Bool, true, false, Option, Some, None, List, [], ◌∷◌, ◌++◌, length, nat_lt, refl, sym, ap, ap₂, ◌∙◌, subst, append_assoc, arith, ltb-true}
+use Rattle.std.proofs.Common.{◌≡◌, ℕ, ◌==◌, ◌&&◌, ◌||◌, not, Bool, true, false, Option, Some, None, List, [], ◌∷◌, ◌++◌, nat_lt, refl, sym, ap, ◌∙◌, subst, append_assoc, arith, ltb-true}
 use Rattle.std.specs.Prelude.{Result, Ok, Err, MatchResult, IfOk, is_none, option_map, unwrap_or}
 use Rattle.std.specs.Result.{IsErrAnd}
 use Rattle.std.proofs.lemmas.Bool.Decides.{nat_tests}
@@ -21,10 +21,10 @@ use Rattle.grib_demote.specs.declared.level.Level.{Level}
 use Rattle.grib_demote.specs.declared.product.Told.{Told}
 use Rattle.grib_demote.specs.declared.field.Field.{Field}
 use Rattle.grib_demote.specs.Answered.{IsDemoteFault}
-use Rattle.grib_demote.specs.Dates.{reference_time, loses_date}
+use Rattle.grib_demote.specs.Dates.{reference_time}
 use Rattle.grib_demote.specs.Levels.{level, level_of}
-use Rattle.grib_demote.specs.Times.{unit_of, is_interval, has_range, has_end, loses_interval}
-use Rattle.grib_demote.specs.Products.{centre, sub_centre, loses_centre, pair_in}
+use Rattle.grib_demote.specs.Times.{unit_of, is_interval, has_range, has_end}
+use Rattle.grib_demote.specs.Products.{centre, sub_centre, pair_in}
 use Rattle.grib_demote.specs.Losses.{first_of, loses_product, loses_grid}
 use Rattle.grib_demote.specs.Grids.{type_of}
 use Rattle.grib_demote.specs.Demoted.{told_in}

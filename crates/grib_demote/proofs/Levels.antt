@@ -1,9 +1,9 @@
 -- The surfaces of the number 1 of each type of level.
-use Rattle.std.proofs.Common.{◌≡◌, ℕ, ◌≤◌, ◌==◌, Bool, true, false, cond, Option, Some, None, find, List, [], ◌∷◌, refl, sym, ap, ◌∙◌, subst, arith}
+use Rattle.std.proofs.Common.{◌≡◌, ℕ, ◌≤◌, ◌==◌, Bool, true, false, cond, Some, find, List, [], ◌∷◌, refl, sym, ap, ◌∙◌, subst, arith}
 use Rattle.std.specs.Prelude.{option_map}
-use Rattle.grib_migrate.specs.Levels.{LevelRow, row, level_rows, surface, surfaces, bare, one_surface, is_shared, surfaces_at}
+use Rattle.grib_migrate.specs.Levels.{LevelRow, level_rows, surface, surfaces, bare, one_surface, is_shared, surfaces_at}
 use Rattle.grib_migrate.specs.declared.level.Surfaces.{Surfaces}
-use Rattle.grib_demote.specs.Held.{IsOne, AreOnes}
+use Rattle.grib_demote.specs.Held.{AreOnes}
 
 Each : List LevelRow → Type 0
 Each [] = Unit {0}

@@ -1,5 +1,5 @@
 -- Which IBM word a binary32 word has.
-use Rattle.std.proofs.Common.{◌≡◌, ℕ, zero, suc, ◌+◌, ◌-◌, ◌*◌, ◌/◌, ◌%◌, ◌^◌, ◌<◌, ◌≤◌, ◌⊎◌, ◌==◌, ◌&&◌, Bool, true, false, cond, Option, Some, None, find, nat_lt, pos, neg_ℤ, ◌-ℤ◌, ◌*ℤ◌, ◌≤ℤ◌, nat_abs, refl, sym, ap, ◌∙◌, subst, arith, inl, inr, eqb-true, eq-eqb, ltb-true, lt-ltb, ne_eqb}
+use Rattle.std.proofs.Common.{◌≡◌, ℕ, zero, suc, ◌+◌, ◌*◌, ◌/◌, ◌%◌, ◌^◌, ◌<◌, ◌≤◌, ◌⊎◌, ◌==◌, ◌&&◌, Bool, true, false, cond, Option, Some, None, find, nat_lt, pos, neg_ℤ, ◌-ℤ◌, ◌*ℤ◌, ◌≤ℤ◌, nat_abs, refl, sym, ap, ◌∙◌, subst, arith, inl, inr, eqb-true, eq-eqb, ltb-true, lt-ltb, ne_eqb}
 use Rattle.std.specs.Prelude.{IfSome, IfNone, option_map}
 use Rattle.std.proofs.Math.Nat.{eq-zero-or-pos, mul-mod_left, mod-eq-sub-div-mul, div-mul-le_self, mul-div_cancel, mul-le-mul_right}
 use Rattle.std.proofs.lemmas.Nat.{pow_pos, pow-add}
@@ -12,7 +12,7 @@ use Rattle.grib_dyadic.specs.Reference.{Binary, binary, with_sign, ieee, ibm, ib
 use Rattle.grib_dyadic.proofs.Numbers.{scaled, SameNumber-scaled, SameNumber-from_scaled, SameNumber_sym, SameNumber_trans}
 use Rattle.grib_dyadic.proofs.Reduced.{zero_of_zero}
 use Rattle.grib_dyadic.proofs.Signs.{nat_abs-signed, signed-times}
-use Rattle.grib_migrate.proofs.References.{IsFound, found, found_is}
+use Rattle.grib_migrate.proofs.References.{found, found_is}
 use Rattle.grib_demote.specs.Words.{magnitude, stands_at, ibm_at, ibm_of}
 
 -- ---- the magnitude of a word, in units of 2 ^ -280

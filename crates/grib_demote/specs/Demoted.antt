@@ -1,5 +1,5 @@
 -- The message of edition 1 that has the values of a field of edition 2 (WMO-No. 306, Volume I.2, FM 92 GRIB).
-use Rattle.std.specs.Prelude.{ℕ, ◌+◌, Bool, cond, Option, Some, None, List, [], ◌∷◌, ◌++◌, length, nat_lt, unwrap_or, option_map}
+use Rattle.std.specs.Prelude.{ℕ, ◌+◌, Bool, Option, Some, None, List, ◌∷◌, ◌++◌, length, nat_lt, unwrap_or, option_map}
 use Rattle.grib_bits.specs.Encoding.{octets_of, all_octets, section1_of}
 use Rattle.grib_bits.specs.Listed.{numbers_octets}
 use Rattle.grib2_sections.specs.Head.{indicator, end_mark, discipline}
@@ -9,8 +9,7 @@ use Rattle.grib2_grids.specs.Grid.{grid_template, grid_points, row_list}
 use Rattle.grib2_products.specs.Spelled.{coordinate_list}
 use Rattle.grib_packing.specs.declared.written.Packed.{Packed}
 use Rattle.grib_packing.specs.Misfits.{ToSimple}
-use Rattle.grib_packed.specs.Written.{packed}
-use Rattle.grib2_message.specs.Fields.{part_octets, column_of}
+use Rattle.grib2_message.specs.Fields.{part_octets}
 use Rattle.grib_repack.specs.Repacked.{packed_field}
 use Rattle.grib_reasons.specs.declared.demotion.Demotion.{Demotion}
 use Rattle.grib_reasons.specs.declared.demotion.Demotion.TheVariants as losses

@@ -1,7 +1,7 @@
 -- Grids (WMO-No. 306, Volume I.2, FM 92 GRIB): Section 3 of edition 2 with templates 3.0, 3.10, 3.20, 3.30 and
 -- 3.40 as Section 2 of edition 1 with types of grid 0, 1, 5, 3 and 4, from octet 4 on. Edition 2 counts angles
 -- in 10^-6 degree and lengths in 10^-3 metre, edition 1 in 10^-3 degree and in metres.
-use Rattle.std.specs.Prelude.{ℕ, ◌+◌, ◌-◌, ◌*◌, ◌%◌, ◌/◌, ◌^◌, Bool, not, cond, ◌&&◌, ◌||◌, Option, option_map, find, List, [], ◌∷◌, ◌++◌, nat_lt, ◌==◌}
+use Rattle.std.specs.Prelude.{ℕ, ◌+◌, ◌*◌, ◌%◌, ◌/◌, ◌^◌, Bool, not, cond, ◌&&◌, ◌||◌, Option, option_map, find, List, [], ◌∷◌, ◌++◌, nat_lt, ◌==◌}
 use Rattle.std.specs.List.{list_any}
 use Rattle.grib_bits.specs.Bits.{bit, digit}
 use Rattle.grib_bits.specs.Octets.{octets}

@@ -1,5 +1,5 @@
 -- What the sections of a field hold, for private functions.
-use Rattle.std.specs.Prelude.{◌≡◌, ◌≢◌, ◌≤◌, ◌<◌, ◌^◌, true, false, Some, option_map, List, ℕ, length}
+use Rattle.std.specs.Prelude.{◌≡◌, ◌≢◌, ◌≤◌, ◌<◌, true, false, Some, option_map, List, ℕ, length}
 use Rattle.grib2_grids.specs.Opaque.{is_opaque_grid}
 use Rattle.grib2_grids.specs.Whole.{IsWhole as IsWholeGrid}
 use Rattle.grib2_products.specs.Opaque.{is_opaque_product}

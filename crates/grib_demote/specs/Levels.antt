@@ -1,8 +1,7 @@
 -- Levels (WMO-No. 306, Volume I.2, FM 92 GRIB): the first and the second fixed surface of edition 2 as a type of
 -- level of edition 1 and its number in octets 11 and 12. The table is that by which levels are migrated, read
 -- from the surfaces to the level.
-use Rattle.std.specs.Prelude.{ℕ, ◌+◌, ◌*◌, ◌/◌, ◌%◌, ◌^◌, Bool, not, cond, ◌&&◌, ◌||◌, Option, Some, None, option_map, List, [], ◌∷◌, ◌++◌, nat_lt, ◌==◌}
-use Rattle.std.specs.List.{range_with_len}
+use Rattle.std.specs.Prelude.{ℕ, ◌+◌, ◌*◌, ◌/◌, ◌%◌, ◌^◌, Bool, not, cond, ◌&&◌, ◌||◌, Option, Some, None, option_map, List, [], ◌∷◌, nat_lt, ◌==◌}
 use Rattle.std.specs.Option.{option_and_then, option_or}
 use Rattle.grib_bits.specs.Octets.{octets}
 use Rattle.grib_migrate.specs.Levels.{surface, surfaces_at}

@@ -1,6 +1,6 @@
 -- What of a field of edition 2 has no place in edition 1: the losses in their order. Which are losses is our own
 -- choice.
-use Rattle.std.specs.Prelude.{ℕ, ◌+◌, Bool, false, not, cond, ◌&&◌, ◌||◌, Option, Some, None, is_none, option_map, List, [], ◌∷◌, ◌++◌, nat_lt, ◌==◌}
+use Rattle.std.specs.Prelude.{ℕ, ◌+◌, Bool, not, cond, ◌&&◌, ◌||◌, Option, Some, None, is_none, option_map, List, [], ◌∷◌, ◌++◌, ◌==◌}
 use Rattle.grib_bits.specs.Octets.{octets}
 use Rattle.grib_params.specs.declared.matching.TableMatch.{TableMatch}
 use Rattle.grib_params.specs.Table.{Entries}

@@ -1,6 +1,6 @@
 -- Products (WMO-No. 306, Volume I.2, FM 92 GRIB): Sections 1 and 4 of edition 2 as Section 1 of edition 1, and the
 -- vertical coordinates of Section 4 as those of its Section 2.
-use Rattle.std.specs.Prelude.{ℕ, ◌+◌, ◌*◌, Bool, not, cond, ◌&&◌, Option, Some, None, is_none, map, List, [], ◌∷◌, ◌++◌, drop, length, nat_lt, replicate, ◌==◌, unwrap_or}
+use Rattle.std.specs.Prelude.{ℕ, ◌+◌, ◌*◌, Bool, not, cond, ◌&&◌, Option, map, List, [], ◌∷◌, ◌++◌, drop, length, nat_lt, replicate, unwrap_or}
 use Rattle.grib_bits.specs.Bits.{digit}
 use Rattle.grib_bits.specs.Octets.{octets}
 use Rattle.grib_params.specs.declared.matching.TableMatch.{TableMatch}
@@ -11,7 +11,6 @@ use Rattle.grib_packing.specs.Packing.{decimal_scale}
 use Rattle.grib_bits.specs.declared.adding.Number.{Number}
 use Rattle.grib_bits.specs.declared.adding.Number.TheVariants.{One, Two, Four}
 use Rattle.grib_demote.specs.declared.product.Told.{Told}
-use Rattle.grib_demote.specs.declared.time.TimeRange.{TimeRange}
 use Rattle.grib_demote.specs.Words.{ibm_of}
 use Rattle.grib_demote.specs.Dates.{reference_time, century, year_of_century}
 use Rattle.grib_demote.specs.Times.{time_range}

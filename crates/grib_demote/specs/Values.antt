@@ -1,6 +1,6 @@
 -- Sections 3 and 4 of edition 1 (WMO-No. 306, Volume I.2, FM 92 GRIB): the bitmap and the numbers of a column in
 -- simple packing, by the Sections 5, 6 and 7 that template 5.0 of edition 2 has for it.
-use Rattle.std.specs.Prelude.{ℕ, ◌+◌, ◌-◌, ◌*◌, ◌%◌, Bool, not, cond, Option, List, [], ◌∷◌, ◌++◌, drop, length, unwrap_or, ◌==◌}
+use Rattle.std.specs.Prelude.{ℕ, ◌+◌, ◌-◌, ◌*◌, ◌%◌, Bool, not, cond, List, [], ◌∷◌, ◌++◌, drop, length, unwrap_or, ◌==◌}
 use Rattle.grib_bits.specs.Bits.{digit}
 use Rattle.grib_bits.specs.Octets.{octets}
 use Rattle.grib_packing.specs.Packing.{value_count, reference_word, binary_scale, bit_width}

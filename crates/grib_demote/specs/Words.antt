@@ -1,6 +1,6 @@
 -- A binary32 word as a word of the IBM single form, exactly (WMO-No. 306, Volume I.2, FM 92 GRIB: edition 2
 -- writes the one, edition 1 the other).
-use Rattle.std.specs.Prelude.{ℕ, ◌+◌, ◌-◌, ◌*◌, ◌/◌, ◌%◌, ◌^◌, cond, Bool, ◌&&◌, Option, Some, None, option_map, find, nat_lt, ◌==◌}
+use Rattle.std.specs.Prelude.{ℕ, ◌+◌, ◌*◌, ◌/◌, ◌%◌, ◌^◌, cond, Bool, ◌&&◌, Option, Some, None, option_map, find, nat_lt, ◌==◌}
 use Rattle.std.specs.List.{range_with_len}
 use Rattle.grib_bits.specs.Binary32.{ieee_sign, ieee_exponent, ieee_fraction}
 

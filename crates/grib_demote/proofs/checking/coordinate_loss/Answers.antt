@@ -1,4 +1,4 @@
-use Rattle.std.proofs.Common.{◌≡◌, ℕ, ◌+◌, Some, get_or, sym, ap, ◌∙◌, arith}
+use Rattle.std.proofs.Common.{ℕ, ◌+◌, Some, get_or, sym, ap, ◌∙◌, arith}
 use Rattle.grib_reasons.specs.declared.demotion.Demotion.TheVariants.{Coordinate}
 use Rattle.grib_demote.specs.Losses as losses
 use Rattle.grib_demote.proofs.Lists.{coordinate_here, coordinate_later, coordinate_none, not_last}

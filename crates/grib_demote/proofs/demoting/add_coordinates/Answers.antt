@@ -1,4 +1,4 @@
-use Rattle.std.proofs.Common.{ℕ, Option, List, [], ◌∷◌, ◌++◌, ap, ◌∙◌, arith}
+use Rattle.std.proofs.Common.{ℕ, Option, [], ◌∷◌, ◌++◌, ap, ◌∙◌, arith}
 use Rattle.std.specs.Prelude.{unwrap_or}
 use Rattle.grib_bits.specs.declared.adding.Number.TheVariants.{Four}
 use Rattle.grib_bits.specs.Encoding.{all_octets}

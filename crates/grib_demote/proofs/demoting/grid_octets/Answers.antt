@@ -1,10 +1,10 @@
-use Rattle.std.proofs.Common.{◌≡◌, ℕ, None, Some, List, [], ◌∷◌, ◌++◌, length, ap, ap₂, sym, subst, ◌∙◌, arith}
+use Rattle.std.proofs.Common.{ℕ, List, [], ◌∷◌, ap, ap₂, sym, subst, ◌∙◌}
 use Rattle.grib2_products.specs.Spelled.{coordinate_list}
 use Rattle.grib2_grids.specs.Grid.{row_list}
 use Rattle.grib2_grids.specs.Whole.{IsWhole}
 use Rattle.grib2_message.specs.Fields.{part_octets}
 use Rattle.grib_demote.specs.Grids.{grid_loss}
-use Rattle.grib_demote.specs.Losses.{first_of, form_losses, number_losses, shape_losses, coordinate_loss}
+use Rattle.grib_demote.specs.Losses.{first_of, form_losses, number_losses, coordinate_loss}
 use Rattle.grib_demote.specs.Demoted as spec
 use Rattle.grib_demote.proofs.Lists.{few_coordinates}
 use Rattle.grib_demote.proofs.Joining.{first_lost, later_lost, here_lost, not_here, memory_carried}

@@ -1,5 +1,5 @@
 use Rattle.std.proofs.Common.{refl}
-use Rattle.grib_demote.proofs.Words.{converted, not_finite}
+use Rattle.grib_demote.proofs.Words.{converted}
 use Rattle.grib_demote.proofs.word.ibm_of.Goals as goal
 
 pub returns : goal.returns
