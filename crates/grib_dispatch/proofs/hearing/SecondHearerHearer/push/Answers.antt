@@ -7,9 +7,9 @@ use Rattle.grib_dispatch.proofs.hearing.SecondHearerHearer.push.Goals as goal
 
 pub push-requires : goal.push-requires
 push-requires c =
-    let octets = c.requires.1 in
-    let heard = c.requires.2 in
-    let second = c.requires.4 in
+    let octets = c.requires.1.0 in
+    let heard = c.requires.1.1 in
+    let second = c.requires.1.3 in
     record {
       live = (
         heard.0,
@@ -17,7 +17,7 @@ push-requires c =
         heard.2,
         record {
           begins = second_is (octets ++ c.args.piece.now) (second_long (octets ++ c.args.piece.now) second) second;
-          unfinished = λ e. c.requires.3 (ap (λ j. j octets) heard.1 ∙ ap judged e);
+          unfinished = λ e. c.requires.1.2 (ap (λ j. j octets) heard.1 ∙ ap judged e);
         },
       );
     }

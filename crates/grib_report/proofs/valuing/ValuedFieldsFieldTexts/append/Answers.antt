@@ -1,4 +1,5 @@
-use Rattle.std.proofs.Common.{◌∙◌, ◌++◌, rules, subst}
+use Rattle.std.proofs.Common.{◌∙◌, ◌++◌, ap, rules, subst}
+use Rattle.grib_text.specs.Lines.{list_line}
 use Rattle.grib_command.specs.Pending.{WritesAllBut}
 use Rattle.grib_command.proofs.Outside.{front_none}
 use Rattle.grib_report.proofs.Finite.{finite_column}
@@ -32,7 +33,7 @@ returns g c = record {
       (λ text. WritesAllBut c.append_valued.result (g.T.Sink.contents c.args.output.now) (g.T.Sink.contents c.append_valued.new.output) (c.args.lines.now.items ++ text)
       c.append_valued.new.lines.items)
       (values_are c.args.self.now.places c.args.self.now.message.now c.args.self.now.number c.args.field c.in_ok-column.column c.as_slice.result.now c.ieee_reference-reference.result
-      c.in_ok-column.ensures.column (c.as_slice.ensures.value ∙ c.in_ok-listed.ensures) c.ieee_reference-reference.ensures.value)
+      c.in_ok-column.ensures.column (c.as_slice.ensures.value ∙ c.in_ok-listed.ensures ∙ ap (λ m. list_line m c.args.self.now.number c.args.field) c.message.ensures) c.ieee_reference-reference.ensures.value)
       c.append_valued.ensures.octets;
   counted = search rules;
   unfinished = search rules;
