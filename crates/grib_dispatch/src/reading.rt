@@ -68,11 +68,7 @@ fn read_first<'a>(alloc: Global, octets: &'a [u8]) -> Result<Held<'a>, ReadFault
 }
 
 /// Reads a message of edition 2 by the profile.
-fn read_second<'a>(
-    alloc: Global,
-    profile: Profile,
-    octets: &'a [u8],
-) -> Result<Held<'a>, ReadFault>
+fn read_second<'a>(alloc: Global, profile: Profile, octets: &'a [u8]) -> Result<Held<'a>, ReadFault>
     requires begun { begins octets.now ≡ true }
     requires second { head.edition octets.now ≡ 2 }
     ensures { MatchResult result (Holds profile octets.now) (IsUnread profile octets.now) }

@@ -5,8 +5,8 @@ ghost use Rattle.grib_report.specs.Dumping as dumps;
 ghost use Rattle.grib_command.specs.Pending.{WritesToAllBut};
 
 use crate::points::{ROOM, append_points, append_text};
-use crate::value_printing::ValuePrinter;
 use crate::references::ieee_reference;
+use crate::value_printing::ValuePrinter;
 use grib_command::write_whole;
 use grib_dyadic::Dyadic;
 use grib_io::{Sink, Stop};

@@ -15,7 +15,11 @@ use std::alloc::{AllocError, Global};
 /// # Errors
 ///
 /// There is no memory for the mask or the groups of the field.
-pub fn field_sums(alloc: Global, message: &ReadableMessage<'_>, field: u32) -> Result<Summary, AllocError>
+pub fn field_sums(
+    alloc: Global,
+    message: &ReadableMessage<'_>,
+    field: u32,
+) -> Result<Summary, AllocError>
     requires first { 1 ≤ field }
     requires last { field ≤ field_count message.now }
     ensures { IfOk result (λ sums. sums ≡ summary_of (column_of message.now field).points) }

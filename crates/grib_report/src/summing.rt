@@ -6,8 +6,8 @@ ghost use Rattle.grib_text.specs.Lines.{reference_line as reference_text};
 ghost use Rattle.grib_text.specs.Stats.{stats_line as sums_text};
 
 use crate::points::append_text;
-use crate::value_printing::ValuePrinter;
 use crate::references::ieee_reference;
+use crate::value_printing::ValuePrinter;
 use crate::{Scaling, field_scaling, field_sums, message_scaling1, message_sums1};
 use grib_command::write_whole;
 use grib_decimal::Summary;

@@ -55,7 +55,7 @@ pub(crate) fn refused_whole(alloc: Global, octets: &[u8]) -> Option<Fault> {
     if octets.len() < 8 || !octets.starts_with(b"GRIB") || u8_at(octets, 8) != 2 {
         return None;
     }
-    match read_message(alloc, octets) {
+    match read_message(alloc, Profile::Stated, octets) {
         Err(ReadFault::Refused(fault)) => Some(fault),
         _ => None,
     }

@@ -208,7 +208,7 @@ const TEXTS: [(&str, &str); 6] = [
     ),
     (
         "help Packing",
-        "Packing             kept by dump, values, stats, repack, rescan, crop and demote: the values of a field cannot be read, since its packing template, which is the number, is not supported; only under profile=open\n",
+        "Packing             kept with profile=open by dump, values, stats, repack, rescan, crop and demote: the values of the field cannot be read, since its packing, 5.<template>, is not supported; kept=copy copies the message\n",
     ),
     (
         "help TooLong",

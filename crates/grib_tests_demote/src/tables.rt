@@ -1,6 +1,7 @@
 //! The versions of the tables of a field, and of a record of the parameter table: which record is found by the same
 //! and by any. What is wanted is worked by hand from the tables of docs/PROFILE.md.
 
+use grib_base::Profile;
 use grib_bits::u8_at;
 use grib_demote::{DemoteFault, demote};
 use grib_migrate::{MigrateFault, migrate};
@@ -9,7 +10,7 @@ use grib_params::{Table, TableMatch, Target};
 use grib_reasons::Demotion;
 use grib_samples::{FIRST_EDITION, MIGRATED, TABLE, edited};
 use grib1_sections::read_message1;
-use grib2_message::read_message;
+use grib2_message::{ReadableMessage, read_message};
 use std::alloc::Global;
 use std::test::Fail;
 
@@ -38,11 +39,12 @@ fn demoted(
     if octets.len() < 8 || !octets.starts_with(b"GRIB") || u8_at(octets, 8) != 2 {
         return Err(DemoteFault::Memory);
     }
-    match read_message(alloc, octets) {
-        Ok(message) if message.fields() > 0 => {
-            demote(alloc, &message, 1, &table, matching, false, false)
-        }
-        _ => Err(DemoteFault::Memory),
+    let Ok(message) = read_message(alloc, Profile::Stated, octets) else {
+        return Err(DemoteFault::Memory);
+    };
+    match ReadableMessage::of(&message) {
+        Ok(readable) => demote(alloc, &readable, 1, &table, matching, false, false),
+        Err(_) => Err(DemoteFault::Memory),
     }
 }
 

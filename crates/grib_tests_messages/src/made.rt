@@ -1,6 +1,6 @@
 //! What is made, against octets and sums that another program made by the same rules.
 
-use crate::worked::read;
+use crate::worked::{read, readable};
 use grib_packing::Point;
 use grib_synthetic::{Summary, made_message, made_summary};
 use std::test::Fail;
@@ -39,7 +39,7 @@ fn field_of_a_degree_is_made(rt: HostRuntime) -> Result<(), Fail> {
     assert_eq!(rt; octets.len(), 121_206);
     let message = read(rt.alloc(), &octets)?;
     assert_eq!(rt; message.fields(), 1);
-    let column = message.column(rt.alloc(), 1)?;
+    let column = readable(&message)?.column(rt.alloc(), 1)?;
     let points = column.points.as_slice();
     assert_eq!(rt; points.len(), 65_160);
     assert_eq!(rt; points[0], Point::Scaled(44));

@@ -2,7 +2,7 @@
 
 use crate::worked::{
     FIRST_VALUES, FOUR_NUMBERS, FOUR_VALUES, GRID, IDENTIFICATION, NO_BITMAP, OWN_BITMAP, PLAIN,
-    PRODUCT, SAME_BITMAP, SECOND_VALUES, THREE_NUMBERS, edited, message_of, read,
+    PRODUCT, SAME_BITMAP, SECOND_VALUES, THREE_NUMBERS, edited, message_of, read, readable,
 };
 use grib_base::{Fault, ReadFault, Reason};
 use grib_packing::Point;
@@ -47,7 +47,7 @@ fn holds(
     if field < 1 || field > message.fields() {
         return Ok(false);
     }
-    let column = message.column(alloc, field)?;
+    let column = readable(message)?.column(alloc, field)?;
     Ok(column.points.as_slice() == points)
 }
 
@@ -152,10 +152,14 @@ fn rows_of_a_grid_add_up(rt: HostRuntime) -> Result<(), Fail> {
         return Err(Fail::from("refused"));
     };
     assert_eq!(rt; message.fields(), 1);
-    let grid = message.grid(rt.alloc(), 1)?;
+    let Some(grid) = message.grid(rt.alloc(), 1)? else {
+        return Err(Fail::from("opaque grid"));
+    };
     assert_eq!(rt; grid.points, 4);
     assert_eq!(rt; grid.rows.as_slice(), [1, 3].as_slice());
-    let product = message.product(rt.alloc(), 1)?;
+    let Some(product) = message.product(rt.alloc(), 1)? else {
+        return Err(Fail::from("opaque product"));
+    };
     assert_eq!(rt; product.coordinates.as_slice().len(), 0);
     sections[2] = b"\0\x02".as_slice();
     let octets = message_of(rt.alloc(), 187, &sections)?;

@@ -5,7 +5,7 @@ ghost use Rattle.grib_repack.specs.Faults.{target_of};
 
 use crate::worked::{
     FIRST_VALUES, FOUR_NUMBERS, FOUR_VALUES, GRID, IDENTIFICATION, NO_BITMAP, OWN_BITMAP, PRODUCT,
-    SAME_BITMAP, SECOND_VALUES, THREE_NUMBERS, message_of, read,
+    SAME_BITMAP, SECOND_VALUES, THREE_NUMBERS, message_of, read, readable,
 };
 use grib_repack::{RepackFault, RepackTarget, repack};
 use std::alloc::{AllocError, Global};
@@ -64,7 +64,7 @@ fn outcome(alloc: Global, octets: &[u8], target: RepackTarget) -> Result<Vec<u8>
     let Ok(message) = read(alloc, octets) else {
         return Err(RepackFault::Memory);
     };
-    repack(alloc, &message, target)
+    repack(alloc, &readable(&message)?, target)
 }
 
 /// Whether the first message is repacked to the second.

@@ -136,7 +136,6 @@ pub(crate) const CAUSES: [&str; 16] = [
     "DecimalRange        kept by dump decimals=: the value is too large to be printed with so many places; fewer places, or dump without decimals=\n",
     "Loss                kept by migrate: edition 2 cannot express something, which the name behind it tells\n",
     "Demotion            kept by demote: edition 1 cannot express something, which the name behind it tells\n",
-    "Packing             kept by dump, values, stats, repack, rescan, crop and demote: the values of a field cannot be read, since its packing template, which is the number, is not supported; only under profile=open\n",
 ];
 
 /// What of a message of edition 1 has no place in edition 2.

@@ -6,7 +6,7 @@ ghost use Rattle.grib2_message.specs.Assembled.{IsShort};
 use super::holds;
 use crate::worked::{
     FIRST_VALUES, FOUR_NUMBERS, FOUR_VALUES, GRID, IDENTIFICATION, NO_BITMAP, OWN_BITMAP, PLAIN,
-    PRODUCT, SECOND_VALUES, THREE_NUMBERS, TWO_FIELDS, message_of, read,
+    PRODUCT, SECOND_VALUES, THREE_NUMBERS, TWO_FIELDS, message_of, read, readable,
 };
 use grib_base::List;
 use grib_packing::{Packed, Point};
@@ -50,7 +50,7 @@ fn assembled(alloc: Global, octets: &[u8], parts: &[Packed]) -> Result<Vec<u8>, 
     if message.fields() as usize != parts.len() {
         return Err(AssembleFault::Memory);
     }
-    message.assemble(alloc, parts)
+    readable(&message)?.assemble(alloc, parts)
 }
 
 #[test]
