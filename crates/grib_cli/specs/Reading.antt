@@ -101,22 +101,31 @@ passed_entry name = entry (is name) (is (codes "pass"))
 abbrev pub copied_entry : List ℕ → Entry
 copied_entry name = entry (is name) is_instead
 
+abbrev pub past_entries : Command → List Entry
+past_entries Check = passed_entry (codes "refused") ∷ []
+past_entries the.List = passed_entry (codes "refused") ∷ []
+past_entries Keys = passed_entry (codes "refused") ∷ []
+past_entries Stats = passed_entry (codes "refused") ∷ []
+past_entries Dump = passed_entry (codes "refused") ∷ passed_entry (codes "kept") ∷ []
+past_entries Values = passed_entry (codes "refused") ∷ passed_entry (codes "kept") ∷ []
+past_entries Make = []
+past_entries Help = []
+past_entries Version = []
+past_entries command = copied_entry (codes "refused") ∷ copied_entry (codes "kept") ∷ []
+
 -- By which profile messages of edition 2 are accepted: with any grid, product and packing, where it is asked for.
 abbrev pub profile_entry : Entry
 profile_entry = entry (is (codes "profile")) (is (codes "open"))
 
--- the names that stand beside a command's own: what a run does with what it cannot answer, and the profile
+abbrev pub profile_entries : Command → List Entry
+profile_entries Make = []
+profile_entries Help = []
+profile_entries Version = []
+profile_entries command = profile_entry ∷ []
+
+-- the names that stand beside a command's own
 abbrev pub policy_entries : Command → List Entry
-policy_entries Check = passed_entry (codes "refused") ∷ profile_entry ∷ []
-policy_entries the.List = passed_entry (codes "refused") ∷ profile_entry ∷ []
-policy_entries Keys = passed_entry (codes "refused") ∷ profile_entry ∷ []
-policy_entries Stats = passed_entry (codes "refused") ∷ profile_entry ∷ []
-policy_entries Dump = passed_entry (codes "refused") ∷ passed_entry (codes "kept") ∷ profile_entry ∷ []
-policy_entries Values = passed_entry (codes "refused") ∷ passed_entry (codes "kept") ∷ profile_entry ∷ []
-policy_entries Make = []
-policy_entries Help = []
-policy_entries Version = []
-policy_entries command = copied_entry (codes "refused") ∷ copied_entry (codes "kept") ∷ profile_entry ∷ []
+policy_entries command = past_entries command ++ profile_entries command
 
 -- whether a name has this value among the entries
 abbrev pub takes : List Entry → List ℕ → List ℕ → Bool

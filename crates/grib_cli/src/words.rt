@@ -1,9 +1,9 @@
 //! The arguments of the command line.
 
-ghost use Rattle.std.specs.Prelude.{◌≡◌, ◌≤◌, [], ◌∷◌, length, map, string_bytes, IfOk};
+ghost use Rattle.std.specs.Prelude.{◌≡◌, ◌≤◌, [], length, map, string_bytes, IfOk};
 ghost use Rattle.grib_command.specs.Jobs.{IsJob};
 ghost use Rattle.grib_cli.specs.Reading as grammar;
-ghost use Rattle.grib_cli.specs.Reading.{entries, own_entries, policy_entries, profile_entry, box_entries, size_entries, target_entries, reading};
+ghost use Rattle.grib_cli.specs.Reading.{entries, own_entries, policy_entries, past_entries, profile_entries, box_entries, size_entries, target_entries, reading};
 ghost use Rattle.grib_cli.specs.declared.words.command.Command.TheVariants.{Crop};
 ghost use Rattle.grib_cli.specs.Words.{IsAsked};
 ghost use Rattle.grib_cli.specs.declared.words.JobFault.TheVariants.{Memory};
@@ -137,18 +137,23 @@ pub(crate) fn takes(command: Command, name: &str, value: &str) -> bool
     takes_own(command, name, value) || takes_policy(command, name, value)
 }
 
-/// Whether the names beside a command's own, on what it cannot answer and on the profile, have a name with this value.
+/// Whether the names beside a command's own have a name with this value.
 fn takes_policy(command: Command, name: &str, value: &str) -> bool
     ensures { result ≡ grammar.takes (policy_entries command) name.now value.now }
+{
+    takes_past(command, name, value) || takes_profile(command, name, value)
+}
+
+/// Whether the names of what a run does with what it cannot answer have a name with this value.
+fn takes_past(command: Command, name: &str, value: &str) -> bool
+    ensures { result ≡ grammar.takes (past_entries command) name.now value.now }
 {
     match command {
         Command::Make | Command::Help | Command::Version => false,
         Command::Check | Command::List | Command::Keys | Command::Stats => {
-            (name == "refused" && value == "pass") || takes_profile(name, value)
+            name == "refused" && value == "pass"
         }
-        Command::Dump | Command::Values => {
-            (matches!(name, "refused" | "kept") && value == "pass") || takes_profile(name, value)
-        }
+        Command::Dump | Command::Values => matches!(name, "refused" | "kept") && value == "pass",
         Command::Filter
         | Command::Split
         | Command::Set
@@ -157,17 +162,19 @@ fn takes_policy(command: Command, name: &str, value: &str) -> bool
         | Command::Demote
         | Command::Rescan
         | Command::Crop => {
-            (matches!(name, "refused" | "kept") && matches!(value, "copy" | "pass"))
-                || takes_profile(name, value)
+            matches!(name, "refused" | "kept") && matches!(value, "copy" | "pass")
         }
     }
 }
 
-/// Whether this name with this value asks for a profile.
-fn takes_profile(name: &str, value: &str) -> bool
-    ensures { result ≡ grammar.takes (profile_entry ∷ []) name.now value.now }
+/// Whether the name of the profile is this, and has this value.
+fn takes_profile(command: Command, name: &str, value: &str) -> bool
+    ensures { result ≡ grammar.takes (profile_entries command) name.now value.now }
 {
-    name == "profile" && value == "open"
+    match command {
+        Command::Make | Command::Help | Command::Version => false,
+        _ => name == "profile" && value == "open",
+    }
 }
 
 /// Whether the names of a command's own arguments have a name with this value.
