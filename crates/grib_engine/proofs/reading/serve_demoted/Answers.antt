@@ -1,8 +1,9 @@
 use Rattle.std.proofs.Common.{◌≡◌, ◌||◌, None, refl, ap}
-use Rattle.grib_command.specs.Command.{under}
+use Rattle.grib_command.specs.Command.{Command, under}
 use Rattle.grib_command.specs.Outcomes.{note_of}
 use Rattle.grib_run_spec.specs.Seen.{seen}
 use Rattle.grib_run_spec.specs.Tasks.{ReadsTables, demoting}
+use Rattle.grib_table.specs.declared.both.Tables.{Tables}
 use Rattle.grib_engine.proofs.Broken.{own_note}
 use Rattle.grib_engine.proofs.Ended.{served}
 use Rattle.grib_engine.proofs.Unread.{untabled, by_tables, left_alone, left_open}
@@ -27,7 +28,7 @@ returns-in-Err-clause-serves g c =
     let before = see c.args.shelf.now in
     let mid = see c.tables_named.new.shelf in
     let own = c.untabled.result in
-    let commands = λ tables. under c.args.profile (demoting c.args.matching c.args.keep_local c.args.any_earth tables) in
+    let commands : Tables → Command = λ tables. under c.args.profile (demoting c.args.matching c.args.keep_local c.args.any_earth tables) in
     let closed = c.close_with_note.ensures in
     served g.T.Sink.takes_memory g.N.Sink.takes_memory before mid (ReadsTables c.args.params.now None commands) c.args.policy (note_of own) (own_note own)
     closed.ends closed.output_kept closed.after_fault closed.whole

@@ -34,3 +34,17 @@ returns-in-Print-clause-serves g c =
     let text : c.as_bytes.result.now ≡ text_of c.in-Print.page = search rules in
     subst (λ job. Serves (g.T.Sink.takes_memory || g.N.Sink.takes_memory) (work_under c.args.profile job) c.args.policy c.write_noted.result before now) (sym c.in-Print.is)
     (subst (λ octets. Serves (g.T.Sink.takes_memory || g.N.Sink.takes_memory) (Makes (writing octets [])) c.args.policy c.write_noted.result before now) text (c.write_noted.ensures before c.args.policy))
+
+pub returns-in-Migrate-clause-serves : goal.returns-in-Migrate-clause-serves
+returns-in-Migrate-clause-serves g c =
+    let see = seen g.S.Source.left g.S.Source.faults g.T.Sink.contents g.T.Sink.faults g.T.Sink.settled g.N.Sink.contents g.N.Sink.faults g.N.Sink.settled g.H.Shelf.contents g.H.Shelf.faults in
+    let before = see c.args.input.now c.args.output.now c.args.notes.now c.args.shelf.now in
+    let now = see c.serve_migrated.new.input c.serve_migrated.new.output c.serve_migrated.new.notes c.serve_migrated.new.shelf in
+    subst (λ job. Serves (g.T.Sink.takes_memory || g.N.Sink.takes_memory) (work_under c.args.profile job) c.args.policy c.serve_migrated.result before now) (sym c.in-Migrate.is) c.serve_migrated.ensures.serves
+
+pub returns-in-Demote-clause-serves : goal.returns-in-Demote-clause-serves
+returns-in-Demote-clause-serves g c =
+    let see = seen g.S.Source.left g.S.Source.faults g.T.Sink.contents g.T.Sink.faults g.T.Sink.settled g.N.Sink.contents g.N.Sink.faults g.N.Sink.settled g.H.Shelf.contents g.H.Shelf.faults in
+    let before = see c.args.input.now c.args.output.now c.args.notes.now c.args.shelf.now in
+    let now = see c.serve_demoted.new.input c.serve_demoted.new.output c.serve_demoted.new.notes c.serve_demoted.new.shelf in
+    subst (λ job. Serves (g.T.Sink.takes_memory || g.N.Sink.takes_memory) (work_under c.args.profile job) c.args.policy c.serve_demoted.result before now) (sym c.in-Demote.is) c.serve_demoted.ensures.serves
