@@ -15,11 +15,13 @@ samples and in FILE.. come behind them, by default the files of Debian's python-
 - if a packing is opaque, what reads values has to say so and write nothing, and with `kept=copy` the message; if not,
   `dump` has to print the values that ecCodes reads, and repacked and back they have to stay.
 
-All of them in one file are then repacked in one run with `kept=copy`. Prints how many runs there were, what ecCodes could not
+All of them in one file are then repacked in one run with `kept=copy`. At last 2,000 of them are damaged, an octet or a
+few each: what is accepted without `profile=open` has to give the same lines with it. Prints how many runs there were, what ecCodes could not
 be asked, and each finding; the status is 1 if there is one."""
 import collections
 import glob
 import os
+import random
 import shutil
 import subprocess
 import sys
@@ -408,6 +410,22 @@ def compare_archive(all_of_them):
     counts["octets of the archive"], counts["octets repacked"] = len(octets), len(packed)
 
 
+def compare_damaged(all_of_them):
+    draw = random.Random(1)
+    short = [octets for octets in all_of_them if len(octets) < 4096]
+    for case in range(2000):
+        octets = bytearray(draw.choice(short))
+        for _ in range(draw.randint(1, 3)):
+            octets[draw.randrange(16, len(octets) - 4)] = draw.choice((0, 1, 127, 128, 255, draw.randrange(256)))
+        octets = bytes(octets)
+        for words in (["check"], ["list"], ["stats"]):
+            stated = ran(words, octets)
+            if stated[0]:
+                break
+            counts["damaged messages that both profiles accept"] += words == ["check"]
+            hold(opened(words, octets) == stated, f"damaged {case}", f"{words[0]} is another with profile=open")
+
+
 def inputs(paths):
     """Messages by name: those that are made, and of the samples together and of each file two of the same templates."""
     yield from made()
@@ -436,6 +454,7 @@ def main():
         if compare(name, octets):
             accepted.append(octets)
     compare_archive(accepted)
+    compare_damaged(accepted)
     for what, number in sorted(counts.items()):
         print(f"{number} {what}")
     for what, number in sorted(unasked.items()):
