@@ -1,7 +1,7 @@
 //! Fields of the open profile that are filtered, split and set, octet for octet.
 
 use crate::messages::{
-    both_packings, characters, chemical, keeps, opaque, parts_of_both, unstructured,
+    both_packings, characters, chemical, first_of_both, keeps, opaque, second_of_both, unstructured,
 };
 use grib_engine::{Cause, Key, Outcome};
 use grib_samples::{PLAIN, edited};
@@ -55,7 +55,8 @@ fn each_field_is_a_message_of_its_own(rt: HostRuntime) -> Result<(), Fail> {
     let alloc = rt.alloc();
     let octets = both_packings(alloc)?;
     let octets = octets.as_slice();
-    let [first, second] = parts_of_both(alloc)?;
+    let first = first_of_both(alloc)?;
+    let second = second_of_both(alloc)?;
     let note = "messages 1 fields 2 written 183\n";
     let done = Outcome::Done;
     let words = "filter profile=open packing=0";

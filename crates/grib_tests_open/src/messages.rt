@@ -125,11 +125,14 @@ pub(crate) fn both_packings(alloc: Global) -> Result<Vec<u8>, AllocError> {
     )
 }
 
-/// The fields of that message as messages of their own: 183 octets each.
-pub(crate) fn parts_of_both(alloc: Global) -> Result<[Vec<u8>; 2], AllocError> {
-    let first = with_data(alloc, [THREE_NUMBERS, OWN_BITMAP, FIRST_VALUES])?;
-    let second = with_data(alloc, [THREE_BINARY32, OWN_BITMAP, THREE_VALUES])?;
-    Ok([first, second])
+/// The first field of the message of both packings, as a message of its own.
+pub(crate) fn first_of_both(alloc: Global) -> Result<Vec<u8>, AllocError> {
+    with_data(alloc, [THREE_NUMBERS, OWN_BITMAP, FIRST_VALUES])
+}
+
+/// Its second field, as a message of its own.
+pub(crate) fn second_of_both(alloc: Global) -> Result<Vec<u8>, AllocError> {
+    with_data(alloc, [THREE_BINARY32, OWN_BITMAP, THREE_VALUES])
 }
 
 /// Whether a run prints this, in pieces of each size.
