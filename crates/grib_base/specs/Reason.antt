@@ -3,7 +3,7 @@ use Rattle.std.specs.Prelude.{ℕ, List, ◌++◌, codes}
 use Rattle.std.specs.Fmt.{decimal}
 use Rattle.grib_base.specs.declared.fault.Fault.{Fault}
 use Rattle.grib_base.specs.declared.fault.Reason.{Reason}
-use Rattle.grib_base.specs.declared.fault.Reason.TheVariants.{Truncated, Edition, TotalLength, SectionLength, SectionOrder, GridSource, GridTemplate, PointCount, ListShape, ProductTemplate, PackingTemplate, Jpeg2000, PngPacked, Ccsds, ReferenceNotFinite, BitmapIndicator, NoEarlierBitmap, BitmapSize, ValueCount, MissingManagement, GroupCount, GroupWidth, GroupShape, DifferenceOrder, ExtraOctets, FirstValueSign, DataTooShort, ScaledRange, EndMark, LengthDisagrees, BitWidth, FieldCount, NoGridSection, GridType, SecondOrder, Harmonics, ExtraFlags}
+use Rattle.grib_base.specs.declared.fault.Reason.TheVariants.{Truncated, Edition, TotalLength, SectionLength, SectionOrder, GridSource, GridTemplate, PointCount, ListShape, ProductTemplate, PackingTemplate, Jpeg2000, PngPacked, Ccsds, ReferenceNotFinite, BitmapIndicator, NoEarlierBitmap, BitmapSize, ValueCount, MissingManagement, GroupCount, GroupWidth, GroupShape, DifferenceOrder, ExtraOctets, FirstValueSign, DataTooShort, ScaledRange, EndMark, LengthDisagrees, BitWidth, FieldCount, NoGridSection, GridType, SecondOrder, Harmonics, ExtraFlags, BlockCode}
 
 abbrev pub number_of : Reason → ℕ
 number_of Truncated = 1
@@ -43,6 +43,7 @@ number_of GridType = 34
 number_of SecondOrder = 35
 number_of Harmonics = 36
 number_of ExtraFlags = 37
+number_of BlockCode = 38
 
 abbrev pub name_of : Reason → List ℕ
 name_of Truncated = codes "Truncated"
@@ -82,6 +83,7 @@ name_of GridType = codes "GridType"
 name_of SecondOrder = codes "SecondOrder"
 name_of Harmonics = codes "Harmonics"
 name_of ExtraFlags = codes "ExtraFlags"
+name_of BlockCode = codes "BlockCode"
 
 -- the octet that decides a refusal, the reason and its detail
 abbrev pub fault_text : Fault → List ℕ

@@ -49,10 +49,11 @@ pub enum Reason {
     SecondOrder,
     Harmonics,
     ExtraFlags,
+    BlockCode,
 }
 
 impl Reason {
-    /// The number of the reason, 1 to 37.
+    /// The number of the reason, 1 to 38.
     pub fn number(&self) -> u8
         ensures { result ≡ number_of self.now }
     {
@@ -101,6 +102,7 @@ impl Reason {
             Reason::SecondOrder => "SecondOrder",
             Reason::Harmonics => "Harmonics",
             Reason::ExtraFlags => "ExtraFlags",
+            Reason::BlockCode => "BlockCode",
         }
     }
 }

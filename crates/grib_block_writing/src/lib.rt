@@ -1,8 +1,6 @@
 //! Blocks of coded numbers as they are written (CCSDS 121.0-B, lossless data compression; WMO-No. 306, Volume I.2, FM 92
 //! GRIB edition 2, data template 7.42): zero blocks in runs as long as possible, each other block as the item of the fewest
 //! bits. What its definitions say of worked streams is computed by [`worked`].
-//!
-//! No command uses this crate yet.
 #![tactic(auto)]
 
 mod blocks;

@@ -1,8 +1,6 @@
 //! The item that a block of codes takes the fewest bits as (CCSDS 121.0-B, lossless data compression; WMO-No. 306,
 //! Volume I.2, FM 92 GRIB edition 2, data template 7.42). The standard leaves the choice to the coder: this one
 //! finds the least, by a walk over k from a good guess, and one rule decides among items of the same bits.
-//!
-//! No command uses this crate yet.
 #![tactic(auto)]
 
 mod choice;

@@ -1,7 +1,7 @@
 -- What coded bits tell of each number (CCSDS 121.0-B; WMO-No. 306, Volume I.2, FM 92 GRIB edition 2, data template
 -- 7.42).
 use Rattle.std.specs.Prelude.{◌≡◌, ℕ, ◌+◌, ◌*◌, ◌%◌, ◌≤◌, Bool, cond, ◌&&◌, ◌==◌, List, [], ◌∷◌, All}
-use Rattle.grib_mapped.specs.Mapped.{mapped}
+use Rattle.grib_mapped.specs.Mapped.{mapped, unmapped}
 use Rattle.grib_coding.specs.declared.coding.Coding.{Coding}
 use Rattle.grib_coding.specs.Coding.{is_mapped, greatest}
 
@@ -29,3 +29,13 @@ told_after c place last (number ∷ numbers) = told c place last number ∷ told
 pub record AreTold (c : Coding) (entries : List Told) (numbers : List ℕ) : Type 0 where
   pub within : All (λ number. number ≤ greatest c) numbers
   pub entries_stand : told_after c 0 0 numbers ≡ entries
+
+-- The way back, so that columns compute: the number that an entry tells after the number `last`,
+abbrev pub number_told : Coding → ℕ → Told → ℕ
+number_told c last (Reference number) = number
+number_told c last (Code code) = cond (is_mapped c) (unmapped (greatest c) last code) code
+
+-- and the numbers that entries tell one after another.
+abbrev pub numbers_told : Coding → ℕ → List Told → List ℕ
+numbers_told c last [] = []
+numbers_told c last (entry ∷ entries) = let number = number_told c last entry in number ∷ numbers_told c number entries

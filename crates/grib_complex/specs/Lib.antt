@@ -8,5 +8,4 @@ pub mod Feeding
 pub mod Written
 pub mod FieldCodes
 pub mod Constant
-pub mod Below
 pub mod KeptWords

@@ -9,7 +9,7 @@ ghost use Rattle.grib_spatial.specs.Undoing.{read_with};
 ghost use Rattle.grib_packing.specs.Span.{IsTold};
 ghost use Rattle.grib_complex.specs.Constant.{DifferencesOf};
 ghost use Rattle.grib_complex.specs.FieldCodes.{codes_in, HasCodes};
-ghost use Rattle.grib_complex.specs.Below.{IsPackedBelow};
+ghost use Rattle.grib_packing.specs.Below.{IsPackedBelow};
 ghost use Rattle.grib_complex.specs.KeptWords.{TellPoints};
 ghost use Rattle.grib_packing.specs.Written.{MayBePacked};
 

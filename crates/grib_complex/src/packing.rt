@@ -4,7 +4,7 @@ ghost use Rattle.std.specs.Prelude.{◌≡◌, ◌⊎◌, ℕ, refl, cond, None}
 ghost use Rattle.grib_packing.specs.declared.column.Column as column_packing;
 ghost use Rattle.grib_packing.specs.Misfits.{Target, ToComplex, ToSpatial};
 ghost use Rattle.grib_packing.specs.Written.{IsPacked, order_known};
-ghost use Rattle.grib_complex.specs.Below.{IsPackedBelow};
+ghost use Rattle.grib_packing.specs.Below.{IsPackedBelow};
 
 use crate::packed::{pack_complex, pack_spatial};
 use crate::unpacking::unpack_complex;

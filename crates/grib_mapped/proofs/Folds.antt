@@ -2,7 +2,7 @@
 use Rattle.std.proofs.Common.{◌≡◌, ℕ, ◌+◌, ◌-◌, ◌*◌, ◌/◌, ◌%◌, ◌<◌, ◌≤◌, ◌⊎◌, inl, inr, ap, ◌∙◌, arith}
 use Rattle.std.proofs.lemmas.Bool.{cases_lt}
 use Rattle.std.proofs.lemmas.Bool.Decides.{nat_tests}
-use Rattle.grib_mapped.specs.Mapped.{reach, mapped, half}
+use Rattle.grib_mapped.specs.Mapped.{reach, mapped, unmapped, half}
 
 pub mapped-within : (most before number : ℕ) → before ≤ most → number ≤ most → mapped most before number ≤ most
 mapped-within most before number b n = grind (arith, nat_tests)
@@ -59,3 +59,7 @@ by_parity most before number code b near even odd = elim (parity code) [
       (omega arith, ap (mapped most before) is ∙ mapped-even most before code b near e)
   | inr o ↦ (omega (arith, odd o), mapped-odd most before number code b near o (odd o))
 ]
+
+-- the number of a code is found again
+pub found_again : (most before number : ℕ) → before ≤ most → number ≤ most → unmapped most before (mapped most before number) ≡ number
+found_again most before number b n = grind (arith, nat_tests)

@@ -1,7 +1,7 @@
 -- Mapped differences (CCSDS 121.0-B, the unit-delay predictor and its mapper; WMO-No. 306, Volume I.2, FM 92
 -- GRIB edition 2, data template 7.42): numbers from 0 to `most`, where each is told by how far it is from the
 -- number before it.
-use Rattle.std.specs.Prelude.{◌≡◌, ℕ, ◌+◌, ◌-◌, ◌*◌, ◌/◌, ◌≤◌, min, List, [], ◌∷◌, All, cond, nat_le, sum_by}
+use Rattle.std.specs.Prelude.{◌≡◌, ◌==◌, ℕ, ◌+◌, ◌-◌, ◌*◌, ◌/◌, ◌%◌, ◌≤◌, min, List, [], ◌∷◌, All, cond, nat_le, sum_by}
 
 -- how far the nearer of 0 and `most` is from a number
 abbrev pub reach : ℕ → ℕ → ℕ
@@ -38,3 +38,11 @@ half code = (code + 1) / 2
 
 abbrev pub halves : List ℕ → ℕ
 halves codes = sum_by half codes
+
+-- The way back: the number that has a code after the number `before`. Its distance is told by the parity of the code as
+-- far as the nearer of 0 and `most`; farther out the code is the distance from the nearer one.
+abbrev pub unmapped : ℕ → ℕ → ℕ → ℕ
+unmapped most before code =
+    cond (nat_le (half code) (reach most before))
+    (cond (code % 2 == 0) (before + half code) (before - half code))
+    (cond (nat_le before (most - before)) code (most - code))

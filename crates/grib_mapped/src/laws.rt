@@ -1,7 +1,7 @@
 //! Laws over the definitions.
 
 ghost use Rattle.std.specs.Prelude.{◌≡◌, ℕ, ◌+◌, ◌-◌, ◌≤◌, List, [], ◌∷◌, All};
-ghost use Rattle.grib_mapped.specs.Mapped.{mapped, reach, half, halves, codes_after, HaveCodes};
+ghost use Rattle.grib_mapped.specs.Mapped.{mapped, unmapped, reach, half, halves, codes_after, HaveCodes};
 
 /// After each number the codes of the numbers from 0 to `most` are the numbers from 0 to `most`, each once.
 pub fn each_code_once()
@@ -10,6 +10,12 @@ pub fn each_code_once()
         → (number : ℕ) × (number ≤ most) × (mapped most before number ≡ code) }
     ensures once { (most before one other : ℕ) → before ≤ most → one ≤ most → other ≤ most
         → mapped most before one ≡ mapped most before other → one ≡ other }
+{}
+
+/// The way back is one: a number is found again from its code.
+pub fn each_number_is_found_again()
+    ensures { (most before number : ℕ) → before ≤ most → number ≤ most
+        → unmapped most before (mapped most before number) ≡ number }
 {}
 
 /// Codes of at most `most` are those of one list of numbers.

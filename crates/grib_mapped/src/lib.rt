@@ -4,7 +4,7 @@
 //! the difference for one above and that less 1 for one below; farther out, where one side is left alone, by
 //! the distance itself.
 //!
-//! Numbers and codes are without unit. No command uses this crate yet.
+//! Numbers and codes are without unit.
 #![tactic(auto)]
 
 pub mod laws;

@@ -1,5 +1,5 @@
 -- Lemmas on opaque packings, and on a Section 5 under a profile.
-use Rattle.std.proofs.Common.{◌≡◌, ℕ, ◌<◌, ◌≤◌, Bool, true, false, not, cond, ◌||◌, ◌==◌, unwrap_or, nat_lt, Option, Some, None, List, [], refl, ap, ◌∙◌, arith, length}
+use Rattle.std.proofs.Common.{◌≡◌, ℕ, ◌<◌, ◌≤◌, Bool, true, false, not, cond, ◌||◌, ◌==◌, unwrap_or, nat_lt, Option, Some, None, List, [], refl, sym, ap, ◌∙◌, arith, length}
 use Rattle.std.proofs.lemmas.Bool.{ltb-false, lt-ltb}
 use Rattle.grib_base.specs.declared.fault.Fault.{Fault}
 use Rattle.grib_base.specs.declared.fault.Reason.TheVariants.{SectionLength}
@@ -7,7 +7,7 @@ use Rattle.grib_base.specs.declared.profile.Profile.{Profile}
 use Rattle.grib_base.specs.declared.profile.Profile.TheVariants.{Stated, Open}
 use Rattle.grib_base.specs.Rows.{Row, choose, first_fault, or_then, refusal}
 use Rattle.grib_base.proofs.Passing.{passes_from_none}
-use Rattle.grib_packing.specs.Entries.{PackingTemplate, simple_packing, complex_packing, unlisted_packing, is_packing, packing_of, is_opaque_packing, opaque_packing_rows, packing_rows, packing_fault, packing_fault_under, data_fault, entries_of}
+use Rattle.grib_packing.specs.Entries.{PackingTemplate, simple_packing, complex_packing, coded_packing, unlisted_packing, is_packing, packing_of, is_opaque_packing, is_stated_packing, unstated_rows, opaque_packing_rows, packing_rows, packing_fault, packing_fault_under, data_fault, entries_of}
 use Rattle.grib_packing.specs.Packing.{packing_template, value_count}
 use Rattle.grib_packing.proofs.Packings.{packing_passes, packing_shared}
 
@@ -15,13 +15,14 @@ use Rattle.grib_packing.proofs.Packings.{packing_passes, packing_shared}
 
 -- it has the packing of no template
 unlisted : (t : ℕ) → not (is_packing t) ≡ true → packing_of t ≡ unlisted_packing t
-unlisted t opaque = by_tests (0 == t) (2 == t) (3 == t) opaque where
-  by_tests : (a b c : Bool) → not (a || (b || (c || false))) ≡ true
-      → unwrap_or (cond a (Some simple_packing) (cond b (Some (complex_packing 2 47)) (cond c (Some (complex_packing 3 49)) None))) (unlisted_packing t) ≡ unlisted_packing t
-  by_tests true b c never = cc
-  by_tests false true c never = cc
-  by_tests false false true never = cc
-  by_tests false false false e = refl
+unlisted t opaque = by_tests (0 == t) (2 == t) (3 == t) (42 == t) opaque where
+  by_tests : (a b c d : Bool) → not (a || (b || (c || (d || false)))) ≡ true
+      → unwrap_or (cond a (Some simple_packing) (cond b (Some (complex_packing 2 47)) (cond c (Some (complex_packing 3 49)) (cond d (Some coded_packing) None)))) (unlisted_packing t) ≡ unlisted_packing t
+  by_tests true b c d never = cc
+  by_tests false true c d never = cc
+  by_tests false false true d never = cc
+  by_tests false false false true never = cc
+  by_tests false false false false e = refl
 
 module _ (s s7 : List ℕ) (opaque : is_opaque_packing s ≡ true) where
   -- no Section 7 is refused
@@ -38,14 +39,55 @@ module _ (s s7 : List ℕ) (opaque : is_opaque_packing s ≡ true) where
 pub accepted_known : (s : List ℕ) (points : ℕ) → packing_fault s points ≡ None → is_opaque_packing s ≡ false
 accepted_known s points none = (passes_from_none (packing_rows s points) (packing_shared s points none)).1.0
 
--- such a packing has the same rows under each profile
-pub known_under : (profile : Profile) (s : List ℕ) (points : ℕ) → is_opaque_packing s ≡ false → packing_fault_under profile s points ≡ packing_fault s points
-known_under Stated s points known = refl
-known_under Open s points known = ap (λ (b : Bool). choose b (λ _. first_fault (opaque_packing_rows s points)) (λ _. packing_fault s points)) known
+-- such a packing has the same rows under the open profile,
+pub known_open : (s : List ℕ) (points : ℕ) → is_opaque_packing s ≡ false → packing_fault_under Open s points ≡ packing_fault s points
+known_open s points known = ap (λ (b : Bool). choose b (λ _. first_fault (opaque_packing_rows s points)) (λ _. packing_fault s points)) known
 
--- what no row refuses is accepted under each profile
-pub accepted_under : (profile : Profile) (s : List ℕ) (points : ℕ) → packing_fault s points ≡ None → packing_fault_under profile s points ≡ None
-accepted_under profile s points none = known_under profile s points (accepted_known s points none) ∙ none
+-- and one that the stated profile has, under each
+stated_own : (s : List ℕ) (points : ℕ) → is_stated_packing s ≡ true → packing_fault_under Stated s points ≡ packing_fault s points
+stated_own s points stated = ap (λ (b : Bool). choose b (λ _. packing_fault s points) (λ _. first_fault (unstated_rows s))) stated
+
+unstated_own : (s : List ℕ) (points : ℕ) → is_stated_packing s ≡ false → packing_fault_under Stated s points ≡ first_fault (unstated_rows s)
+unstated_own s points unstated = ap (λ (b : Bool). choose b (λ _. packing_fault s points) (λ _. first_fault (unstated_rows s))) unstated
+
+-- the stated profile has packings of the list alone
+pub stated_known : (s : List ℕ) → is_stated_packing s ≡ true → is_opaque_packing s ≡ false
+stated_known s stated = by_choice (is_opaque_packing s) refl where
+  by_choice : (b : Bool) → is_opaque_packing s ≡ b → b ≡ false
+  by_choice false e = refl
+  by_choice true e = let never : false ≡ true = sym (ap (λ (p : PackingTemplate). p.stated) (unlisted (packing_template s) e)) ∙ stated in cc
+
+pub stated_under : (profile : Profile) (s : List ℕ) (points : ℕ) → is_stated_packing s ≡ true → packing_fault_under profile s points ≡ packing_fault s points
+stated_under Stated s points stated = stated_own s points stated
+stated_under Open s points stated = known_open s points (stated_known s stated)
+
+-- a section that the stated profile does not have is refused
+some_refuses : (s : List ℕ) → first_fault (unstated_rows s) ≡ None → ⊥
+some_refuses s none = let rows = passes_from_none (unstated_rows s) none in let never : true ≡ false = rows.1.0 in cc
+
+-- what no row refuses is accepted under the open profile, and under the stated one where it has the packing
+pub accepted_open : (s : List ℕ) (points : ℕ) → packing_fault s points ≡ None → packing_fault_under Open s points ≡ None
+accepted_open s points none = known_open s points (accepted_known s points none) ∙ none
+
+pub accepted_stated : (profile : Profile) (s : List ℕ) (points : ℕ) → is_stated_packing s ≡ true → packing_fault s points ≡ None → packing_fault_under profile s points ≡ None
+accepted_stated profile s points stated none = stated_under profile s points stated ∙ none
+
+-- what the stated profile accepts no row refuses
+pub stated_accepts : (s : List ℕ) (points : ℕ) → packing_fault_under Stated s points ≡ None → (is_stated_packing s ≡ true) × (packing_fault s points ≡ None)
+stated_accepts s points none = by_choice (is_stated_packing s) refl where
+  by_choice : (b : Bool) → is_stated_packing s ≡ b → (is_stated_packing s ≡ true) × (packing_fault s points ≡ None)
+  by_choice true e = (e, sym (stated_own s points e) ∙ none)
+  by_choice false e = absurd (some_refuses s (sym (unstated_own s points e) ∙ none))
+
+-- nor one of a packing of the list that some profile accepts
+pub read_under : (profile : Profile) (s : List ℕ) (points : ℕ) → is_opaque_packing s ≡ false → packing_fault_under profile s points ≡ None → packing_fault s points ≡ None
+read_under Stated s points known none = (stated_accepts s points none).1
+read_under Open s points known none = sym (known_open s points known) ∙ none
+
+-- what is accepted under the stated profile is accepted under each
+pub opened_under : (profile : Profile) (s : List ℕ) (points : ℕ) → packing_fault_under Stated s points ≡ None → packing_fault_under profile s points ≡ None
+opened_under Stated s points none = none
+opened_under Open s points none = accepted_open s points (stated_accepts s points none).1
 
 -- an opaque packing has its own rows under the open profile
 pub opaque_under : (s : List ℕ) (points : ℕ) → is_opaque_packing s ≡ true → packing_fault_under Open s points ≡ first_fault (opaque_packing_rows s points)
@@ -57,7 +99,10 @@ same_first false fault rest more later is = cc
 
 -- a section that is too short for a template is refused alike
 pub short_under : (profile : Profile) (s : List ℕ) (points : ℕ) → length s < 11 → packing_fault_under profile s points ≡ packing_fault s points
-short_under Stated s points short = refl
+short_under Stated s points short = by_choice (is_stated_packing s) where
+  by_choice : (b : Bool) → choose b (λ _. packing_fault s points) (λ _. first_fault (unstated_rows s)) ≡ packing_fault s points
+  by_choice true = refl
+  by_choice false = same_first (nat_lt (length s) 11) (refusal 1 SectionLength (length s)) _ _ _ (lt-ltb (length s) 11 short)
 short_under Open s points short = by_choice (is_opaque_packing s) where
   by_choice : (b : Bool) → choose b (λ _. first_fault (opaque_packing_rows s points)) (λ _. packing_fault s points) ≡ packing_fault s points
   by_choice true = same_first (nat_lt (length s) 11) (refusal 1 SectionLength (length s)) _ _ _ (lt-ltb (length s) 11 short)
@@ -73,14 +118,14 @@ opaque_passes s points none =
     let rows = passes_from_none (opaque_packing_rows s points) none in
     record { long = ltb-false (length s) 11 rows.0; few = ltb-false points (value_count s) rows.1.0 }
 
-stated_passes : (s : List ℕ) (points : ℕ) → packing_fault s points ≡ None → PassesUnder s points
-stated_passes s points none =
+known_passes : (s : List ℕ) (points : ℕ) → packing_fault s points ≡ None → PassesUnder s points
+known_passes s points none =
     let passes = packing_passes s points none in
     record { long = omega (arith, passes.long); few = passes.few }
 
 pub passes_under : (profile : Profile) (s : List ℕ) (points : ℕ) → packing_fault_under profile s points ≡ None → PassesUnder s points
-passes_under Stated s points none = stated_passes s points none
+passes_under Stated s points none = known_passes s points (stated_accepts s points none).1
 passes_under Open s points none = by_choice (is_opaque_packing s) none where
   by_choice : (b : Bool) → choose b (λ _. first_fault (opaque_packing_rows s points)) (λ _. packing_fault s points) ≡ None → PassesUnder s points
   by_choice true e = opaque_passes s points e
-  by_choice false e = stated_passes s points e
+  by_choice false e = known_passes s points e

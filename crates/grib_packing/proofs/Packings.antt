@@ -6,20 +6,22 @@ use Rattle.grib_base.specs.declared.fault.Fault.{Fault}
 use Rattle.grib_base.specs.Rows.{Row, first_fault, or_then}
 use Rattle.grib_base.proofs.Passing.{passes_from_none}
 use Rattle.grib_packing.specs.Complex.{complex_rows}
-use Rattle.grib_packing.specs.Entries.{PackingTemplate, simple_packing, complex_packing, unlisted_packing, is_packing, packing_of, own_packing, packing_rows, packing_fault, data_fault, entries_of, complex_data_fault, complex_entries}
+use Rattle.grib_packing.specs.Coded.{coded_rows, coded_data_fault, coded_entries}
+use Rattle.grib_packing.specs.Entries.{PackingTemplate, simple_packing, complex_packing, coded_packing, unlisted_packing, is_packing, packing_of, own_packing, packing_rows, packing_fault, data_fault, entries_of, complex_data_fault, complex_entries}
 use Rattle.grib_packing.specs.Packing.{packing_template, value_count, reference_word, bit_width}
 use Rattle.grib_packing.specs.Simple.{simple_rows, simple_entries}
 
 -- what holds of each packing and of a template that is not in the list holds of the packing of a template
-by_tests : (P : PackingTemplate → Type 0) (t : ℕ) (a b c : Bool) → P simple_packing → P (complex_packing 2 47) → P (complex_packing 3 49) → P (unlisted_packing t)
-    → P (unwrap_or (cond a (Some simple_packing) (cond b (Some (complex_packing 2 47)) (cond c (Some (complex_packing 3 49)) None))) (unlisted_packing t))
-by_tests P t true b c simple two three unlisted = simple
-by_tests P t false true c simple two three unlisted = two
-by_tests P t false false true simple two three unlisted = three
-by_tests P t false false false simple two three unlisted = unlisted
+by_tests : (P : PackingTemplate → Type 0) (t : ℕ) (a b c d : Bool) → P simple_packing → P (complex_packing 2 47) → P (complex_packing 3 49) → P coded_packing → P (unlisted_packing t)
+    → P (unwrap_or (cond a (Some simple_packing) (cond b (Some (complex_packing 2 47)) (cond c (Some (complex_packing 3 49)) (cond d (Some coded_packing) None)))) (unlisted_packing t))
+by_tests P t true b c d simple two three coded unlisted = simple
+by_tests P t false true c d simple two three coded unlisted = two
+by_tests P t false false true d simple two three coded unlisted = three
+by_tests P t false false false true simple two three coded unlisted = coded
+by_tests P t false false false false simple two three coded unlisted = unlisted
 
-pub each_packing : (P : PackingTemplate → Type 0) (t : ℕ) → P simple_packing → P (complex_packing 2 47) → P (complex_packing 3 49) → P (unlisted_packing t) → P (packing_of t)
-each_packing P t simple two three unlisted = by_tests P t (0 == t) (2 == t) (3 == t) simple two three unlisted
+pub each_packing : (P : PackingTemplate → Type 0) (t : ℕ) → P simple_packing → P (complex_packing 2 47) → P (complex_packing 3 49) → P coded_packing → P (unlisted_packing t) → P (packing_of t)
+each_packing P t simple two three coded unlisted = by_tests P t (0 == t) (2 == t) (3 == t) (42 == t) simple two three coded unlisted
 
 -- ---- simple packing
 
@@ -55,6 +57,18 @@ most-simple t simple = ap (λ (n : ℕ). (packing_of n).most) simple
 pub most-complex : (t : ℕ) → IsComplexTemplate t → (packing_of t).most ≡ 32
 most-complex t complex = by_complex (λ n. (packing_of n).most) 32 t refl refl complex
 
+-- ---- CCSDS packing
+
+module _ (s5 s7 : List ℕ) (coded : packing_template s5 ≡ 42) where
+  pub data_fault-coded : data_fault s5 s7 ≡ coded_data_fault s5 s7
+  data_fault-coded = ap (λ (t : ℕ). (packing_of t).fault s5 s7) coded
+
+  pub entries_of-coded : entries_of s5 s7 ≡ coded_entries s5 s7
+  entries_of-coded = ap (λ (t : ℕ). (packing_of t).entries s5 s7) coded
+
+pub most-coded : (t : ℕ) → t ≡ 42 → (packing_of t).most ≡ 32
+most-coded t coded = ap (λ (n : ℕ). (packing_of n).most) coded
+
 -- ---- Section 5 where the rows pass that all templates share
 
 module _ (s : List ℕ) (points : ℕ) (shared : first_fault (packing_rows s points) ≡ None) where
@@ -68,30 +82,41 @@ module _ (s : List ℕ) (points : ℕ) (shared : first_fault (packing_rows s poi
   packing_fault-complex complex =
       own_rows ∙ by_complex (λ t. first_fault ((packing_of t).rows s)) (first_fault (complex_rows s)) (packing_template s) refl refl complex
 
+  pub packing_fault-coded : packing_template s ≡ 42 → packing_fault s points ≡ first_fault (coded_rows s)
+  packing_fault-coded coded = own_rows ∙ ap (λ (t : ℕ). first_fault ((packing_of t).rows s)) coded
+
 -- ---- a Section 5 that no row refuses
 
 or_true : (a b : Bool) → (a || b) ≡ true → (a ≡ true) ⊎ (b ≡ true)
 or_true true b e = inl refl
 or_true false b e = inr e
 
-pub known_packing : (t : ℕ) → is_packing t ≡ true → (t ≡ 0) ⊎ IsComplexTemplate t
-known_packing t e = elim (or_true (0 == t) ((2 == t) || ((3 == t) || false)) e) [
+-- simple packing, complex packing or CCSDS packing
+abbrev pub IsListed : ℕ → Type 0
+IsListed t = (t ≡ 0) ⊎ (IsComplexTemplate t ⊎ (t ≡ 42))
+
+pub known_packing : (t : ℕ) → is_packing t ≡ true → IsListed t
+known_packing t e = elim (or_true (0 == t) ((2 == t) || ((3 == t) || ((42 == t) || false))) e) [
   | inl none ↦ inl (sym (eqb-true 0 t none))
-  | inr more ↦ elim (or_true (2 == t) ((3 == t) || false) more) [
-    | inl two ↦ inr (inl (sym (eqb-true 2 t two)))
-    | inr most ↦ elim (or_true (3 == t) false most) [ inl three ↦ inr (inr (sym (eqb-true 3 t three))) | inr never ↦ absurd (cc) ]
+  | inr more ↦ elim (or_true (2 == t) ((3 == t) || ((42 == t) || false)) more) [
+    | inl two ↦ inr (inl (inl (sym (eqb-true 2 t two))))
+    | inr most ↦ elim (or_true (3 == t) ((42 == t) || false) most) [
+      | inl three ↦ inr (inl (inr (sym (eqb-true 3 t three))))
+      | inr last ↦ elim (or_true (42 == t) false last) [ inl coded ↦ inr (inr (sym (eqb-true 42 t coded))) | inr never ↦ absurd (cc) ]
+    ]
   ]
 ]
 
 -- no packing has less than 21 octets in Section 5
-least-some : (t : ℕ) → (t ≡ 0) ⊎ IsComplexTemplate t → 21 ≤ (packing_of t).least
+least-some : (t : ℕ) → IsListed t → 21 ≤ (packing_of t).least
 least-some t (inl is) = subst (λ (n : ℕ). 21 ≤ (packing_of n).least) (sym is) (omega arith)
-least-some t (inr (inl is)) = subst (λ (n : ℕ). 21 ≤ (packing_of n).least) (sym is) (omega arith)
+least-some t (inr (inl (inl is))) = subst (λ (n : ℕ). 21 ≤ (packing_of n).least) (sym is) (omega arith)
+least-some t (inr (inl (inr is))) = subst (λ (n : ℕ). 21 ≤ (packing_of n).least) (sym is) (omega arith)
 least-some t (inr (inr is)) = subst (λ (n : ℕ). 21 ≤ (packing_of n).least) (sym is) (omega arith)
 
 -- what the rows say that all templates share
 pub record PackingPasses (s : List ℕ) (points : ℕ) : Type 0 where
-  pub template : (packing_template s ≡ 0) ⊎ IsComplexTemplate (packing_template s)
+  pub template : IsListed (packing_template s)
   pub least : (own_packing s).least ≤ length s
   pub long : 21 ≤ length s
   pub few : value_count s ≤ points
@@ -123,7 +148,8 @@ packing_shared s points none = first_none (first_fault (packing_rows s points)) 
 pub packing_passes : (s : List ℕ) (points : ℕ) → packing_fault s points ≡ None → PackingPasses s points
 packing_passes s points none = shared_passes s points (packing_shared s points none)
 
--- a packing that is not the simple one is complex packing
-pub complex_unless : (t : ℕ) → (t ≡ 0) ⊎ IsComplexTemplate t → (t ≡ 0 → ⊥) → IsComplexTemplate t
-complex_unless t (inl simple) other = absurd (other simple)
-complex_unless t (inr complex) other = complex
+-- a packing that is neither the simple one nor CCSDS packing is complex packing
+pub complex_unless : (t : ℕ) → IsListed t → (t ≡ 0 → ⊥) → (t ≡ 42 → ⊥) → IsComplexTemplate t
+complex_unless t (inl simple) other coded = absurd (other simple)
+complex_unless t (inr (inl complex)) other coded = complex
+complex_unless t (inr (inr is)) other coded = absurd (coded is)

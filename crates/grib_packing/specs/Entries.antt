@@ -1,6 +1,6 @@
 -- What packed data mean: Section 7 of complex packing, and the list of the packings, by which all is read
--- (WMO-No. 306, Volume I.2, FM 92 GRIB edition 2, code table 5.0 and data templates 7.0, 7.2 and 7.3).
-use Rattle.std.specs.Prelude.{ℕ, ◌+◌, ◌-◌, ◌*◌, Bool, false, not, cond, ◌&&◌, Option, List, [], ◌∷◌, ◌++◌, length, drop, map, replicate, Some, None, unwrap_or, find, nat_lt, ◌==◌, ℤ, pos}
+-- (WMO-No. 306, Volume I.2, FM 92 GRIB edition 2, code table 5.0 and data templates 7.0, 7.2, 7.3 and 7.42).
+use Rattle.std.specs.Prelude.{ℕ, ◌+◌, ◌-◌, ◌*◌, Bool, true, false, not, cond, ◌&&◌, Option, List, [], ◌∷◌, ◌++◌, length, drop, map, replicate, Some, None, unwrap_or, find, nat_lt, ◌==◌, ℤ, pos}
 use Rattle.std.specs.List.{filter_map, list_any}
 use Rattle.grib_bits.specs.Binary32.{ieee_exponent}
 use Rattle.grib_bits.specs.Octets.{octets, signed_octets}
@@ -14,6 +14,7 @@ use Rattle.grib_base.specs.Rows.{Row, row, first_fault, first_place, or_then, ch
 use Rattle.grib_packing.specs.Groups.{grouped, list_rows, group_rows}
 use Rattle.grib_packing.specs.Column.{column_with, points_with_mask}
 use Rattle.grib_packing.specs.Simple.{simple_rows, simple_entries}
+use Rattle.grib_packing.specs.Coded.{coded_rows, coded_data_fault, coded_entries}
 use Rattle.grib_packing.specs.declared.column.Column.{Column}
 use Rattle.grib_packing.specs.declared.column.Point.{Point}
 use Rattle.grib_packing.specs.declared.column.Point.TheVariants.{Scaled, Missing, Missing2}
@@ -128,6 +129,7 @@ pub record PackingTemplate : Type 0 where
   pub number : ℕ  -- of the template
   pub least : ℕ  -- the least length of Section 5, in octets
   pub most : ℕ  -- the most bits of each packed number, or of each group reference
+  pub stated : Bool  -- whether the stated profile has it; the open one has each of the list
   pub rows : List ℕ → List Row  -- the rows of Section 5 that other templates do not share
   pub fault : List ℕ → List ℕ → Option Fault  -- the refusal of a Section 7, from Sections 5 and 7
   pub entries : List ℕ → List ℕ → List Point  -- the entries of the present points, from Sections 5 and 7
@@ -137,6 +139,7 @@ simple_packing = record {
   number = 0;
   least = 21;
   most = 48;
+  stated = true;
   rows = λ s. [];
   fault = λ s5 s7. first_fault (simple_rows s5 (length s7));
   entries = simple_entries;
@@ -147,14 +150,26 @@ complex_packing number least = record {
   number = number;
   least = least;
   most = 32;
+  stated = true;
   rows = complex_rows;
   fault = complex_data_fault;
   entries = complex_entries;
 }
 
--- the packings of the profile
+abbrev pub coded_packing : PackingTemplate
+coded_packing = record {
+  number = 42;
+  least = 25;
+  most = 32;
+  stated = false;
+  rows = coded_rows;
+  fault = coded_data_fault;
+  entries = coded_entries;
+}
+
+-- the packings whose values are read
 abbrev pub packings : List PackingTemplate
-packings = simple_packing ∷ complex_packing 2 47 ∷ complex_packing 3 49 ∷ []
+packings = simple_packing ∷ complex_packing 2 47 ∷ complex_packing 3 49 ∷ coded_packing ∷ []
 
 -- a template that is not in the list has no rows of its own, no refusal and no entries
 abbrev pub unlisted_packing : ℕ → PackingTemplate
@@ -162,6 +177,7 @@ unlisted_packing number = record {
   number = number;
   least = 0;
   most = 255;
+  stated = false;
   rows = λ s. [];
   fault = λ s5 s7. None;
   entries = λ s5 s7. [];
@@ -192,7 +208,7 @@ packing_rows s points =
     ∷ row (nat_lt (packing_of t).most (bit_width s)) 20 BitWidth (bit_width s)  -- S5.6
     ∷ []
 
--- the refusal of a Section 5 by these rows and by those of its template: rows S5.1 to S5.13
+-- the refusal of a Section 5 by these rows and by those of its template: rows S5.1 to S5.16
 abbrev pub packing_fault : List ℕ → ℕ → Option Fault
 packing_fault s points = or_then (first_fault (packing_rows s points)) (λ _. (own_packing s).rows s)
 
@@ -207,13 +223,26 @@ opaque_packing_rows s points =
     ∷ row (nat_lt points (value_count s)) 6 ValueCount (value_count s)  -- S5.4
     ∷ []
 
+-- whether the stated profile has the packing of a Section 5
+abbrev pub is_stated_packing : List ℕ → Bool
+is_stated_packing s = (own_packing s).stated
+
+-- the rows of a Section 5 whose packing the stated profile does not have
+abbrev pub unstated_rows : List ℕ → List Row
+unstated_rows s =
+    let t = packing_template s in
+    row (nat_lt (length s) 11) 1 SectionLength (length s)  -- S5.1
+    ∷ row true 10 (template_reason t) t  -- S5.2
+    ∷ []
+
 -- the refusal of a Section 5 under a profile: the open one tries no row of a template that is not in the list
 abbrev pub packing_fault_under : Profile → List ℕ → ℕ → Option Fault
-packing_fault_under Stated s points = packing_fault s points
+packing_fault_under Stated s points =
+    choose (is_stated_packing s) (λ _. packing_fault s points) (λ _. first_fault (unstated_rows s))
 packing_fault_under Open s points =
     choose (is_opaque_packing s) (λ _. first_fault (opaque_packing_rows s points)) (λ _. packing_fault s points)
 
--- the refusal of a Section 7: rows S7.1 to S7.7
+-- the refusal of a Section 7: rows S7.1 to S7.11
 abbrev pub data_fault : List ℕ → List ℕ → Option Fault
 data_fault s5 s7 = (own_packing s5).fault s5 s7
 

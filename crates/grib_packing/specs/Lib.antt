@@ -1,6 +1,7 @@
 pub mod Packing
 pub mod Column
 pub mod Simple
+pub mod Coded
 pub mod Groups
 pub mod Differences
 pub mod Complex
@@ -13,6 +14,7 @@ pub mod Representation
 pub mod Sections
 pub mod Unpacked
 pub mod Written
+pub mod Below
 pub mod Laws
 pub mod Kept
 pub use Rattle.grib_bitmap.specs.Mask

@@ -6,18 +6,20 @@ use Rattle.grib_packing.specs.declared.column.Point.{Point}
 use Rattle.grib_packing.specs.declared.column.Point.TheVariants.{Scaled, Missing, Missing2}
 use Rattle.grib_packing.specs.Differences.{descriptors_of, difference_codes}
 
--- what is packed to: simple packing, or groups of codes, which are the scaled integers or their
--- spatial differences of order 1 or 2
+-- what is packed to: simple packing; groups of codes, which are the scaled integers or their spatial differences of order
+-- 1 or 2; or CCSDS packing, with so many values in a block and so many blocks from one reference to the next
 pub data Target : Type 0 where
   ToSimple : Target
   ToComplex : Target
   ToSpatial : ℕ → Target
+  ToCoded : ℕ → ℕ → Target
 
 -- the number of its data representation template (code table 5.0)
 abbrev pub template_of : Target → ℕ
 template_of ToSimple = 0
 template_of ToComplex = 2
 template_of (ToSpatial order) = 3
+template_of (ToCoded block interval) = 42
 
 -- the first cause, with its point, counted from 1
 pub data Misfit : Type 0 where
@@ -77,9 +79,14 @@ are_differences_out order k numbers =
     is_outside (2 ^ 31 - 1) d.first || is_outside (2 ^ 31 - 1) d.second || nat_lt (2 ^ 31 - 1) (nat_abs d.minimum)
     || list_any (λ code. nat_lt (greatest_code k) code) (difference_codes order numbers)
 
+-- the misfit of packings that have a bitmap for missing points
+abbrev pub plain_misfit : ℕ → List Point → Option Misfit
+plain_misfit greatest points =
+    first_of (misfit_at SecondaryMissing is_missing2 points) (misfit_at OutOfRange (is_scaled_outside greatest) points)
+
 abbrev pub first_misfit : Target → List Point → Option Misfit
-first_misfit ToSimple points =
-    first_of (misfit_at SecondaryMissing is_missing2 points) (misfit_at OutOfRange (is_scaled_outside (2 ^ 48 - 1)) points)
+first_misfit ToSimple points = plain_misfit (2 ^ 48 - 1) points
 first_misfit ToComplex points = misfit_at OutOfRange (is_scaled_outside (greatest_code (management_of points))) points
 first_misfit (ToSpatial order) points =
     cond (are_differences_out order (management_of points) (scaled_numbers points)) (Some DifferenceRange) None
+first_misfit (ToCoded block interval) points = plain_misfit (2 ^ 32 - 1) points

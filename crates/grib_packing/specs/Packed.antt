@@ -1,5 +1,5 @@
 -- What packing writes: Sections 5, 6 and 7 of a field (WMO-No. 306, Volume I.2, FM 92 GRIB edition 2,
--- templates 5.0, 5.2, 5.3, 7.0, 7.2 and 7.3). Which of the valid packings is written is a choice of ours.
+-- templates 5.0, 5.2, 5.3, 5.42, 7.0, 7.2, 7.3 and 7.42). Which of the valid packings is written is a choice of ours.
 use Rattle.std.specs.Prelude.{◌≡◌, ℕ, ◌-◌, ◌*◌, ◌^◌, ◌<◌, Bool, false, not, cond, List, [], ◌∷◌, ◌++◌, length, map, drop, replicate, get_or, nat_lt, int_lt, ◌==◌, ℤ, pos, nat_abs, All}
 use Rattle.std.specs.List.{list_any, list_all}
 use Rattle.grib_bits.specs.Bits.{bits, bits_of}
@@ -12,7 +12,9 @@ use Rattle.grib_packing.specs.declared.column.Point.TheVariants.{Scaled, Missing
 use Rattle.grib_packing.specs.declared.column.Column.{Column}
 use Rattle.grib_packing.specs.Differences.{Descriptors, descriptors_of, difference_codes}
 use Rattle.grib_packing.specs.Groupings.{digits, greatest, smallest, present_codes, is_primary, is_secondary, width_of, reference_bits_of, width_bits_of, header_bits, length_bits, runs, joined, Chosen}
-use Rattle.grib_packing.specs.Misfits.{Target, ToSimple, ToComplex, ToSpatial, is_missing, scaled_numbers, management_of}
+use Rattle.grib_coding.specs.declared.coding.Coding.{Coding}
+use Rattle.grib_block_writing.specs.Written as blocks
+use Rattle.grib_packing.specs.Misfits.{Target, ToSimple, ToComplex, ToSpatial, ToCoded, is_missing, scaled_numbers, management_of}
 
 -- bits up to the end of an octet
 abbrev pub padded : List Bool → List Bool
@@ -73,6 +75,7 @@ abbrev pub target_codes : Target → List Point → List Code
 target_codes ToSimple points = []
 target_codes ToComplex points = placed_codes points (map nat_abs (scaled_numbers points))
 target_codes (ToSpatial order) points = placed_codes points (difference_codes order (scaled_numbers points))
+target_codes (ToCoded block interval) points = []
 
 -- The reference of a group: its least number; in a group without one all ones, of b bits, where all are
 -- primary, one less where all are secondary, and 0 where both occur.
@@ -170,8 +173,31 @@ pub record IsSpatial (order : ℕ) (column : Column) (kind : ℕ) (s5 s6 s7 : Li
   pub values : HasContents 7 s7 (descriptor_fields (descriptors_of order (scaled_numbers column.points))
       ++ group_parts (management_of column.points) (target_codes (ToSpatial order) column.points) lengths)
 
+-- To CCSDS packing: the numbers and the bitmap of simple packing, in blocks. Codes are mapped differences (8); the other
+-- two flags tell how a program holds the numbers (2, 4).
+abbrev pub coding_to : ℕ → ℕ → List Point → Coding
+coding_to block interval points = record { bits = simple_width points; flags = 14; block = block; interval = interval }
+
+-- numbers of no bits are not coded
+abbrev pub blocks_written : Coding → List ℕ → List Bool
+blocks_written c numbers = cond (c.bits == 0) [] (blocks.written c numbers)
+
+-- octets 22 to 25 of Section 5
+pub record HasCoding (s : List ℕ) (c : Coding) : Type 0 where
+  pub flags : octets s 22 22 ≡ c.flags
+  pub block : octets s 23 23 ≡ c.block
+  pub interval : octets s 24 25 ≡ c.interval
+
+pub record IsCoded (block interval : ℕ) (column : Column) (kind : ℕ) (s5 s6 s7 : List ℕ) : Type 0 where
+  pub as_long : length s5 ≡ 25
+  pub numbers : HasNumbers s5 column (length (simple_numbers column.points)) 42 (simple_width column.points) kind
+  pub coding : HasCoding s5 (coding_to block interval column.points)
+  pub bitmap : IsBitmap s6 column.points
+  pub values : HasContents 7 s7 (blocks_written (coding_to block interval column.points) (simple_numbers column.points))
+
 -- what a packing to a target writes
 abbrev pub Packed : Target → Column → ℕ → List ℕ → List ℕ → List ℕ → Type 0
 Packed ToSimple column kind s5 s6 s7 = IsSimple column kind s5 s6 s7
 Packed ToComplex column kind s5 s6 s7 = IsComplex column kind s5 s6 s7
 Packed (ToSpatial order) column kind s5 s6 s7 = IsSpatial order column kind s5 s6 s7
+Packed (ToCoded block interval) column kind s5 s6 s7 = IsCoded block interval column kind s5 s6 s7

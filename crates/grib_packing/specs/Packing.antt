@@ -1,5 +1,5 @@
 -- Section 5, the data representation section (WMO-No. 306, Volume I.2, FM 92 GRIB edition 2, data
--- representation templates 5.0, 5.2 and 5.3): what all of them share.
+-- representation templates 5.0, 5.2, 5.3 and 5.42): what all of them share.
 use Rattle.std.specs.Prelude.{ℕ, cond, List, ◌==◌}
 use Rattle.grib_bits.specs.Octets.{octets}
 use Rattle.grib_base.specs.declared.fault.Reason.{Reason}
@@ -27,6 +27,6 @@ decimal_scale s = octets s 18 19
 abbrev pub bit_width : List ℕ → ℕ
 bit_width s = octets s 20 20
 
--- why a template that is not of the profile is refused
+-- why a template that is not of a profile is refused
 abbrev pub template_reason : ℕ → Reason
 template_reason t = cond (t == 40) Jpeg2000 (cond (t == 41) PngPacked (cond (t == 42) Ccsds PackingTemplate))

@@ -5,7 +5,7 @@ use Rattle.std.specs.List.{list_any}
 use Rattle.grib_bits.specs.Binary32.{ieee_exponent}
 use Rattle.grib_packing.specs.declared.column.Column.{Column}
 use Rattle.grib_packing.specs.Entries.{is_out_of_range}
-use Rattle.grib_packing.specs.Misfits.{Target, ToSimple, ToComplex, ToSpatial, Misfit, first_misfit, SecondaryMissing as SecondaryMisfit, OutOfRange as RangeMisfit, DifferenceRange as DifferenceMisfit}
+use Rattle.grib_packing.specs.Misfits.{Target, ToSimple, ToComplex, ToSpatial, ToCoded, Misfit, first_misfit, SecondaryMissing as SecondaryMisfit, OutOfRange as RangeMisfit, DifferenceRange as DifferenceMisfit}
 use Rattle.grib_packing.specs.Packed.{Packed as HasPacked}
 use Rattle.grib_packing.specs.declared.written.Packed.{Packed}
 use Rattle.grib_packing.specs.declared.written.PackFault.{PackFault}
@@ -19,11 +19,16 @@ pub record MayBePacked (column : Column) : Type 0 where
   pub within : list_any is_out_of_range column.points ≡ false
   pub finite : (ieee_exponent column.reference == 255) ≡ false
 
+-- a block has 8, 16, 32 or 64 values, and 1 to 4,096 blocks follow one another from one reference to the next
+abbrev pub IsBlocks : ℕ → ℕ → Type 0
+IsBlocks block interval = ((block ≡ 8) ⊎ ((block ≡ 16) ⊎ ((block ≡ 32) ⊎ (block ≡ 64)))) × (1 ≤ interval) × (interval ≤ 4096)
+
 -- differences are of order 1 or 2
 abbrev pub IsTarget : Target → Type 0
 IsTarget ToSimple = Unit {0}
 IsTarget ToComplex = Unit {0}
 IsTarget (ToSpatial order) = (order ≡ 1) ⊎ (order ≡ 2)
+IsTarget (ToCoded block interval) = IsBlocks block interval
 
 -- order 2 or order 1 is one of them
 pub order_known : (second : Bool) → IsTarget (ToSpatial (cond second 2 1))

@@ -21,7 +21,7 @@ pub use column::{Column, Point};
 pub use group::Group;
 pub use keeping::{Keeper, Nothing, Points, push_in_room};
 pub use layout::Layout;
-pub use opaque::{Opaque, is_opaque, read_opaque};
+pub use opaque::{Opaque, check_stated, is_opaque, is_read, read_opaque};
 pub use packing::Packing;
 pub use representation::{Simple, numbers_of, read_simple};
 pub use span::{Span, bit_length};

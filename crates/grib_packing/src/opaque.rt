@@ -1,11 +1,12 @@
-//! Section 5, the data representation section, where its packing is opaque.
+//! Section 5, the data representation section, by the packings that a profile has.
 
-ghost use Rattle.std.specs.Prelude.{◌≡◌, ◌≤◌, length, Some, None, MatchResult};
-ghost use Rattle.grib_base.specs.Rows.{first_fault_at};
-ghost use Rattle.grib_packing.specs.Entries.{is_opaque_packing, opaque_packing_rows};
+ghost use Rattle.std.specs.Prelude.{◌≡◌, ◌≤◌, ℕ, length, Some, None, MatchResult};
+ghost use Rattle.grib_base.specs.declared.profile.Profile.TheVariants.{Stated};
+ghost use Rattle.grib_base.specs.Rows.{first_fault_at, located};
+ghost use Rattle.grib_packing.specs.Entries.{is_opaque_packing, is_packing, is_stated_packing, opaque_packing_rows, packing_fault, packing_fault_under};
 ghost use Rattle.grib_packing.specs.Representation.{SpelledOpaque};
 
-use crate::representation::limits_of;
+use crate::representation::{limits_of, reason_of};
 use byteorder::{BigEndian, ByteOrder};
 use grib_base::{Fault, Reason, Section};
 
@@ -41,11 +42,48 @@ pub fn read_opaque(section: &Section<'_>, points: u32) -> Result<Opaque, Fault>
     Ok(Opaque { values, template })
 }
 
-/// Whether a Section 5, by its octets, has an opaque packing: its template (code table 5.0) is not one of the
-/// profile.
+/// Whether the values of fields with this template (code table 5.0) are read: 5.0, 5.2, 5.3 and 5.42.
+pub fn is_read(template: u16) -> bool
+    ensures { result ≡ is_packing template }
+{
+    limits_of(template).is_ok()
+}
+
+/// Whether a Section 5, by its octets, has an opaque packing: its template (code table 5.0) is not one whose values are
+/// read.
 pub fn is_opaque(octets: &[u8]) -> bool
     requires { 11 ≤ length octets.now }
     ensures { result ≡ is_opaque_packing octets.now }
 {
-    limits_of(BigEndian::read_u16(&octets[9..])).is_err()
+    !is_read(BigEndian::read_u16(&octets[9..]))
+}
+
+/// Whether the stated profile has the packing of a Section 5, by its octets.
+pub fn is_stated(octets: &[u8]) -> bool
+    requires { 11 ≤ length octets.now }
+    ensures { result ≡ is_stated_packing octets.now }
+{
+    match limits_of(BigEndian::read_u16(&octets[9..])) {
+        Ok(limits) => limits.is_stated,
+        Err(_) => false,
+    }
+}
+
+/// Tries of a Section 5 the row by which the stated profile refuses a packing that it does not have. All other rows it
+/// shares with every profile that has the packing.
+///
+/// # Errors
+///
+/// The stated profile does not have the packing.
+pub fn check_stated(section: &Section<'_>) -> Result<(), Fault>
+    ensures { MatchResult result
+        (λ _. (points : ℕ) → packing_fault_under Stated section.now.octets.now points ≡ packing_fault section.now.octets.now points)
+        (λ fault. (points : ℕ) → located section.now.start (packing_fault_under Stated section.now.octets.now points) ≡ Some fault) }
+{
+    let octets = section.octets;
+    if octets.len() < 11 || is_stated(octets) {
+        return Ok(());
+    }
+    let template = BigEndian::read_u16(&octets[9..]);
+    Err(section.fault_at(10, reason_of(template), u64::from(template)))
 }

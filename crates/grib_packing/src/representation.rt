@@ -13,8 +13,8 @@ use crate::{Column, Point};
 use byteorder::{BigEndian, ByteOrder};
 use grib_base::{Fault, List, Reason, Section};
 
-/// What Section 5 says in each template of the profile (WMO-No. 306, Volume I.2, FM 92 GRIB edition 2, data
-/// representation templates 5.0, 5.2 and 5.3).
+/// What Section 5 says in each template whose values are read (WMO-No. 306, Volume I.2, FM 92 GRIB edition 2, data
+/// representation templates 5.0, 5.2, 5.3 and 5.42).
 #[derive(Clone, Copy, Debug, PartialEq, Eq)]
 pub struct Simple {
     /// The number of values that Section 7 gives: octets 6-9.
@@ -48,8 +48,8 @@ impl Simple {
 }
 
 /// Reads of Section 5 what all templates share, where the grid has this many points. A refusal is that of
-/// the first row of the profile that fails: the section is too short, its template is not one of the
-/// profile, there are more values than points, the reference value is not finite, or the numbers are
+/// the first row of the profile that fails: the section is too short, its template is not one of those
+/// whose values are read, there are more values than points, the reference value is not finite, or the numbers are
 /// too wide.
 pub fn read_simple(section: &Section<'_>, points: u32) -> Result<Simple, Fault>
     ensures { MatchResult result
@@ -105,35 +105,48 @@ pub fn numbers_of(octets: &[u8]) -> Simple
     }
 }
 
-/// What a template of the profile asks of a Section 5.
+/// What a template whose values are read asks of a Section 5.
 #[derive(Clone, Copy)]
 pub(crate) struct Limits {
     /// The least length of the section, in octets.
     least_length: u64,
     /// The most bits of each packed number, or of each group reference.
     most_bits: u8,
+    /// Whether the stated profile has it.
+    pub(crate) is_stated: bool,
 }
 
-/// The limits of a template of the profile, or why a template is refused.
+/// The limits of a template whose values are read, or why a template is refused.
 pub(crate) fn limits_of(template: u16) -> Result<Limits, Reason>
     ensures { MatchResult result
         (λ limits. (is_packing template ≡ true) × (limits.least_length ≡ (packing_of template).least)
-        × (limits.most_bits ≡ (packing_of template).most))
+        × (limits.most_bits ≡ (packing_of template).most) × (limits.is_stated ≡ (packing_of template).stated))
         (λ reason. (is_packing template ≡ false) × (reason ≡ template_reason template)) }
 {
-    let (least_length, most_bits) = match template {
-        0 => (21, 48),
-        2 => (47, 32),
-        3 => (49, 32),
-        40 => return Err(Reason::Jpeg2000),
-        41 => return Err(Reason::PngPacked),
-        42 => return Err(Reason::Ccsds),
-        _ => return Err(Reason::PackingTemplate),
+    let (least_length, most_bits, is_stated) = match template {
+        0 => (21, 48, true),
+        2 => (47, 32, true),
+        3 => (49, 32, true),
+        42 => (25, 32, false),
+        _ => return Err(reason_of(template)),
     };
     Ok(Limits {
         least_length,
         most_bits,
+        is_stated,
     })
+}
+
+/// Why a template that a profile does not have is refused.
+pub(crate) fn reason_of(template: u16) -> Reason
+    ensures { result ≡ template_reason template }
+{
+    match template {
+        40 => Reason::Jpeg2000,
+        41 => Reason::PngPacked,
+        42 => Reason::Ccsds,
+        _ => Reason::PackingTemplate,
+    }
 }
 
 /// Whether a binary32 word is neither infinite nor NaN.

@@ -13,12 +13,11 @@ use Rattle.grib_packing.specs.declared.column.Point.{Point}
 use Rattle.grib_packing.specs.declared.column.Point.TheVariants.{Scaled, Missing, Missing2}
 use Rattle.grib_packing.specs.Column.{points_with_mask}
 use Rattle.grib_packing.specs.Entries.{is_packing, packing_of, packing_rows, packing_fault, data_fault, entries_of, column_from}
-use Rattle.grib_packing.specs.Misfits.{ToSimple, first_misfit, is_missing2}
+use Rattle.grib_packing.specs.Misfits.{ToSimple, first_misfit, is_missing2, is_scaled_outside}
 use Rattle.grib_packing.specs.Packed.{HasNumbers, IsSimple, fields, padded, present_bits, simple_numbers, simple_width}
 use Rattle.grib_packing.specs.Packing.{value_count, bit_width}
 use Rattle.grib_packing.specs.Simple.{plain_bits}
 use Rattle.grib_packing.proofs.Fields.{length-fields, length-padded8, plain-padded}
-use Rattle.grib_simple.specs.Survey.{is_too_wide}
 use Rattle.grib_packing.specs.Written.{MayBePacked}
 use Rattle.grib_packing.proofs.Packings.{data_fault-simple, entries_of-simple, packing_fault-simple}
 use Rattle.grib_simple.proofs.Accepted.{same_column}
@@ -48,14 +47,18 @@ shared_rows s column points values template width kind h known least long few fi
 -- ---- the points
 
 -- the numbers of the points that are present, and missing points by the bitmap
-pub points_back : (points : List Point) → list_any is_missing2 points ≡ false → list_any is_too_wide points ≡ false
+pub points_again : (m : ℕ) (points : List Point) → list_any is_missing2 points ≡ false → list_any (is_scaled_outside m) points ≡ false
     → points_with_mask (present_bits points) (map (λ x. Scaled (pos x)) (simple_numbers points)) ≡ points
-points_back [] marks fits = refl
-points_back (Scaled x ∷ points) marks fits =
-    let both = parts_false (is_too_wide (Scaled x)) (list_any is_too_wide points) fits in
-    ap₂ (λ (z : ℤ) (ps : List Point). Scaled z ∷ ps) (number_back (2 ^ 48 - 1) x both.0) (points_back points marks both.1)
-points_back (Missing ∷ points) marks fits = ap (λ (ps : List Point). Missing ∷ ps) (points_back points marks fits)
-points_back (Missing2 ∷ points) marks fits = absurd (cc)
+points_again m [] marks fits = refl
+points_again m (Scaled x ∷ points) marks fits =
+    let both = parts_false (is_scaled_outside m (Scaled x)) (list_any (is_scaled_outside m) points) fits in
+    ap₂ (λ (z : ℤ) (ps : List Point). Scaled z ∷ ps) (number_back m x both.0) (points_again m points marks both.1)
+points_again m (Missing ∷ points) marks fits = ap (λ (ps : List Point). Missing ∷ ps) (points_again m points marks fits)
+points_again m (Missing2 ∷ points) marks fits = absurd (cc)
+
+pub points_back : (points : List Point) → list_any is_missing2 points ≡ false → list_any (is_scaled_outside (2 ^ 48 - 1)) points ≡ false
+    → points_with_mask (present_bits points) (map (λ x. Scaled (pos x)) (simple_numbers points)) ≡ points
+points_back points marks fits = points_again (2 ^ 48 - 1) points marks fits
 
 module _ (column : Column) (kind : ℕ) (s5 s6 s7 : List ℕ) (may : MayBePacked column) (none : first_misfit ToSimple column.points ≡ None) (h : IsSimple column kind s5 s6 s7) where
   pub accepted : packing_fault s5 (length column.points) ≡ None

@@ -1,14 +1,13 @@
--- Columns that fit simple packing.
+-- Columns that fit simple packing, or another one with a bitmap whose numbers are 0 to some number.
 use Rattle.std.proofs.Common.{◌≡◌, ℕ, ◌-◌, ◌^◌, ◌<◌, ◌≤◌, ◌||◌, Bool, true, false, cond, Option, Some, None, ℤ, pos, negsuc, nat_abs, nat_lt, List, [], ◌∷◌, length, All, refl, arith, ltb-false}
 use Rattle.std.specs.List.{list_any}
 use Rattle.std.proofs.lemmas.List.Elements.{All-nil, All-cons, All-weaker, All-head, All-tail}
 use Rattle.grib_packing.specs.declared.column.Point.{Point}
 use Rattle.grib_packing.specs.declared.column.Point.TheVariants.{Scaled, Missing, Missing2}
 use Rattle.grib_packing.specs.Groupings.{digits, greatest}
-use Rattle.grib_packing.specs.Misfits.{Misfit, SecondaryMissing, OutOfRange, ToSimple, first_of, first_misfit, misfit_at, is_missing2, is_outside}
+use Rattle.grib_packing.specs.Misfits.{Misfit, SecondaryMissing, OutOfRange, ToSimple, first_of, first_misfit, misfit_at, plain_misfit, is_missing2, is_outside, is_scaled_outside}
 use Rattle.grib_packing.specs.Packed.{simple_numbers, simple_width}
 use Rattle.grib_packing.proofs.Digits.{digits-lt_64, digits-most_64}
-use Rattle.grib_simple.specs.Survey.{is_too_wide}
 
 -- ---- no misfit
 
@@ -20,10 +19,15 @@ not_any : (b : Bool) (misfit : Misfit) → cond b (Some misfit) None ≡ None �
 not_any true misfit e = absurd (cc)
 not_any false misfit e = refl
 
-pub none_fail : (points : List Point) → first_misfit ToSimple points ≡ None → (list_any is_missing2 points ≡ false) × (list_any is_too_wide points ≡ false)
-none_fail points none =
-    let both = both_none (misfit_at SecondaryMissing is_missing2 points) (misfit_at OutOfRange is_too_wide points) none in
-    (not_any (list_any is_missing2 points) _ both.0, not_any (list_any is_too_wide points) _ both.1)
+pub nothing_fails : (m : ℕ) (points : List Point) → plain_misfit m points ≡ None
+    → (list_any is_missing2 points ≡ false) × (list_any (is_scaled_outside m) points ≡ false)
+nothing_fails m points none =
+    let both = both_none (misfit_at SecondaryMissing is_missing2 points) (misfit_at OutOfRange (is_scaled_outside m) points) none in
+    (not_any (list_any is_missing2 points) _ both.0, not_any (list_any (is_scaled_outside m) points) _ both.1)
+
+pub none_fail : (points : List Point) → first_misfit ToSimple points ≡ None
+    → (list_any is_missing2 points ≡ false) × (list_any (is_scaled_outside (2 ^ 48 - 1)) points ≡ false)
+none_fail points none = nothing_fails (2 ^ 48 - 1) points none
 
 -- ---- a number that fits
 
@@ -31,23 +35,23 @@ pub parts_false : (a b : Bool) → (a || b) ≡ false → (a ≡ false) × (b �
 parts_false true b e = absurd (cc)
 parts_false false b e = (refl, e)
 
-pub number_below : (x : ℤ) → is_outside (2 ^ 48 - 1) x ≡ false → nat_abs x < 2 ^ 48
-number_below (pos n) inside =
-    let both = parts_false (nat_lt n 0) (nat_lt (2 ^ 48 - 1) n) inside in
-    omega (arith, ltb-false (2 ^ 48 - 1) n both.1)
-number_below (negsuc n) inside = absurd (cc)
+number_within : (m : ℕ) (x : ℤ) → is_outside m x ≡ false → nat_abs x ≤ m
+number_within m (pos n) inside =
+    let both = parts_false (nat_lt n 0) (nat_lt m n) inside in
+    omega (arith, ltb-false m n both.1)
+number_within m (negsuc n) inside = absurd (cc)
 
 pub number_back : (m : ℕ) (x : ℤ) → is_outside m x ≡ false → pos (nat_abs x) ≡ x
 number_back m (pos n) inside = refl
 number_back m (negsuc n) inside = absurd (cc)
 
-pub numbers_below : (points : List Point) → list_any is_too_wide points ≡ false → All (λ n. n < 2 ^ 48) (simple_numbers points)
-numbers_below [] fits = All-nil (λ n. n < 2 ^ 48)
-numbers_below (Scaled x ∷ points) fits =
-    let both = parts_false (is_too_wide (Scaled x)) (list_any is_too_wide points) fits in
-    All-cons (λ n. n < 2 ^ 48) (nat_abs x) (simple_numbers points) (number_below x both.0) (numbers_below points both.1)
-numbers_below (Missing ∷ points) fits = numbers_below points fits
-numbers_below (Missing2 ∷ points) fits = numbers_below points fits
+pub numbers_within : (m : ℕ) (points : List Point) → list_any (is_scaled_outside m) points ≡ false → All (λ n. n ≤ m) (simple_numbers points)
+numbers_within m [] fits = All-nil (λ n. n ≤ m)
+numbers_within m (Scaled x ∷ points) fits =
+    let both = parts_false (is_scaled_outside m (Scaled x)) (list_any (is_scaled_outside m) points) fits in
+    All-cons (λ n. n ≤ m) (nat_abs x) (simple_numbers points) (number_within m x both.0) (numbers_within m points both.1)
+numbers_within m (Missing ∷ points) fits = numbers_within m points fits
+numbers_within m (Missing2 ∷ points) fits = numbers_within m points fits
 
 -- ---- the greatest number
 
@@ -58,29 +62,34 @@ greatest_below m (n ∷ ns) some each =
     let rest = greatest_below m ns some (All-tail (λ n. n < m) n ns each) in
     omega arith
 
+greatest_within : (m : ℕ) (ns : List ℕ) → All (λ n. n ≤ m) ns → greatest ns ≤ m
+greatest_within m [] each = omega arith
+greatest_within m (n ∷ ns) each =
+    let here : n ≤ m = All-head (λ n. n ≤ m) n ns each in
+    let rest = greatest_within m ns (All-tail (λ n. n ≤ m) n ns each) in
+    omega arith
+
 pub at_most : (m : ℕ) (ns : List ℕ) → greatest ns ≤ m → All (λ n. n ≤ m) ns
 at_most m [] most = All-nil (λ n. n ≤ m)
 at_most m (n ∷ ns) most = All-cons (λ n. n ≤ m) n ns (omega arith) (at_most m ns (omega arith))
 
-module _ (points : List Point) (none : first_misfit ToSimple points ≡ None) where
-  pub all_below : All (λ n. n < 2 ^ 48) (simple_numbers points)
-  all_below = let both = none_fail points none in numbers_below points both.1
+-- the numbers have the bits of the greatest
+pub holds_each : (ns : List ℕ) → greatest ns < 2 ^ 64 → All (λ n. n < 2 ^ digits (greatest ns)) ns
+holds_each ns small =
+    let most : greatest ns < 2 ^ digits (greatest ns) = digits-lt_64 (greatest ns) (omega arith) in
+    All-weaker (λ n. n ≤ greatest ns) (λ n. n < 2 ^ digits (greatest ns)) (λ n h. omega (arith, h, most)) ns (at_most (greatest ns) ns (omega arith))
+
+module _ (m : ℕ) (points : List Point) (none : plain_misfit m points ≡ None) where
+  pub greatest_most : greatest (simple_numbers points) ≤ m
+  greatest_most = let both = nothing_fails m points none in greatest_within m (simple_numbers points) (numbers_within m points both.1)
 
 module _ (points : List Point) (none : first_misfit ToSimple points ≡ None) where
-  greatest_small : greatest (simple_numbers points) < 2 ^ 48
-  greatest_small = greatest_below (2 ^ 48) (simple_numbers points) (omega arith) (all_below points none)
-
-module _ (points : List Point) (none : first_misfit ToSimple points ≡ None) where
-  -- the numbers have the bits of the greatest, which are 48 at most
+  -- which are 48 at most
   pub width_few : simple_width points ≤ 48
-  width_few = let small = greatest_small points none in digits-most_64 (greatest (simple_numbers points)) 48 (omega arith) small
+  width_few = let most = greatest_most (2 ^ 48 - 1) points none in digits-most_64 (greatest (simple_numbers points)) 48 (omega arith) (omega (arith, most))
 
   pub width_fits : All (λ n. n < 2 ^ simple_width points) (simple_numbers points)
-  width_fits =
-      let numbers = simple_numbers points in
-      let small = greatest_small points none in
-      let most : greatest numbers < 2 ^ digits (greatest numbers) = digits-lt_64 (greatest numbers) (omega arith) in
-      All-weaker (λ n. n ≤ greatest numbers) (λ n. n < 2 ^ digits (greatest numbers)) (λ n h. omega (arith, h, most)) numbers (at_most (greatest numbers) numbers (omega arith))
+  width_fits = let most = greatest_most (2 ^ 48 - 1) points none in holds_each (simple_numbers points) (omega (arith, most))
 
 -- there are no more numbers than points
 pub few_numbers : (points : List Point) → length (simple_numbers points) ≤ length points

@@ -5,7 +5,7 @@ pub mod Masked
 pub mod Seen
 mod PointByPoint
 pub mod Fitting
-mod Bitmaps
+pub mod Bitmaps
 pub mod Back
 mod Same
 mod Times

@@ -6,10 +6,10 @@ use Rattle.grib_base.specs.Rows.{first_place}
 use Rattle.grib_packing.specs.declared.column.Point.{Point}
 use Rattle.grib_packing.specs.declared.column.Point.TheVariants.{Scaled, Missing, Missing2}
 use Rattle.grib_packing.specs.Groupings.{greatest}
-use Rattle.grib_packing.specs.Misfits.{is_missing, is_missing2}
+use Rattle.grib_packing.specs.Misfits.{is_missing, is_missing2, is_scaled_outside}
 use Rattle.grib_packing.specs.Packed.{simple_numbers}
 use Rattle.grib_simple.specs.declared.survey.Survey.{Survey}
-use Rattle.grib_simple.specs.Survey.{IsSurvey, Surveys, is_too_wide, place_after}
+use Rattle.grib_simple.specs.Survey.{IsSurvey, Surveys, place_after}
 use Rattle.grib_simple.proofs.Seen.{first-here, first-later}
 
 -- ---- tests of elements that are all the same
@@ -78,15 +78,15 @@ or_false : (b : Bool) → (b || false) ≡ b
 or_false true = refl
 or_false false = refl
 
-same_survey : (one now : Survey) (point : Point) (n : ℕ) → now.secondary ≡ one.secondary → now.too_wide ≡ one.too_wide → now.greatest ≡ one.greatest
-    → now.missing ≡ one.missing → now.present ≡ one.present * suc n → Surveys one 1 [] (point ∷ []) → IsSurvey now (replicate (suc n) point)
-same_survey one now point n secondary wide most missing present h =
+same_survey : (most : ℕ) (one now : Survey) (point : Point) (n : ℕ) → now.secondary ≡ one.secondary → now.too_wide ≡ one.too_wide → now.greatest ≡ one.greatest
+    → now.missing ≡ one.missing → now.present ≡ one.present * suc n → Surveys most one 1 [] (point ∷ []) → IsSurvey most now (replicate (suc n) point)
+same_survey most one now point n secondary wide greatest_is missing present h =
     let few : one.present ≡ length (simple_numbers (point ∷ [])) = omega (arith, h.present) in
     let all : now.present ≡ length (simple_numbers (point ∷ [])) * suc n = present ∙ ap (λ (k : ℕ). k * suc n) few in
-    let greatest_one : now.greatest ≡ greatest (simple_numbers (point ∷ [])) = omega (arith, most, h.greatest_is) in
+    let greatest_one : now.greatest ≡ greatest (simple_numbers (point ∷ [])) = omega (arith, greatest_is, h.greatest_is) in
     record {
       secondary = secondary ∙ sym (place_end one.secondary 1 is_missing2) ∙ h.secondary ∙ sym (place_same is_missing2 point n);
-      too_wide = wide ∙ sym (place_end one.too_wide 1 is_too_wide) ∙ h.too_wide ∙ sym (place_same is_too_wide point n);
+      too_wide = wide ∙ sym (place_end one.too_wide 1 (is_scaled_outside most)) ∙ h.too_wide ∙ sym (place_same (is_scaled_outside most) point n);
       greatest_is = greatest_one ∙ sym (most_same point n);
       present = all ∙ sym (ap length (numbers_same point (suc n)) ∙ length-replicate _ _);
       missing = missing ∙ sym (or_false one.missing) ∙ h.missing ∙ or_false (is_missing point) ∙ sym (any_same is_missing point (is_missing point) n refl);
@@ -94,8 +94,8 @@ same_survey one now point n secondary wide most missing present h =
     }
 
 -- the same by a number that is not 0
-pub is_survey_same : (one now : Survey) (point : Point) (count : ℕ) → 1 ≤ count → now.secondary ≡ one.secondary → now.too_wide ≡ one.too_wide
-    → now.greatest ≡ one.greatest → now.missing ≡ one.missing → now.present ≡ one.present * count → Surveys one 1 [] (point ∷ [])
-    → IsSurvey now (replicate count point)
-is_survey_same one now point zero some secondary wide most missing present h = absurd (omega arith)
-is_survey_same one now point (suc n) some secondary wide most missing present h = same_survey one now point n secondary wide most missing present h
+pub is_survey_same : (most : ℕ) (one now : Survey) (point : Point) (count : ℕ) → 1 ≤ count → now.secondary ≡ one.secondary → now.too_wide ≡ one.too_wide
+    → now.greatest ≡ one.greatest → now.missing ≡ one.missing → now.present ≡ one.present * count → Surveys most one 1 [] (point ∷ [])
+    → IsSurvey most now (replicate count point)
+is_survey_same most one now point zero some secondary wide greatest_is missing present h = absurd (omega arith)
+is_survey_same most one now point (suc n) some secondary wide greatest_is missing present h = same_survey most one now point n secondary wide greatest_is missing present h

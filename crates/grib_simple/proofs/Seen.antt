@@ -5,9 +5,9 @@ use Rattle.std.proofs.lemmas.Bool.{cases_lt}
 use Rattle.grib_base.specs.Rows.{first_place}
 use Rattle.grib_packing.specs.declared.column.Point.{Point}
 use Rattle.grib_packing.specs.declared.column.Point.TheVariants.{Scaled}
-use Rattle.grib_packing.specs.Misfits.{Misfit, SecondaryMissing, OutOfRange, ToSimple, first_of, first_misfit, misfit_at, is_missing, is_missing2}
+use Rattle.grib_packing.specs.Misfits.{Misfit, SecondaryMissing, OutOfRange, first_of, misfit_at, plain_misfit, is_missing, is_missing2, is_scaled_outside}
 use Rattle.grib_simple.specs.declared.survey.Survey.{Survey}
-use Rattle.grib_simple.specs.Survey.{place_after, is_too_wide, Surveys}
+use Rattle.grib_simple.specs.Survey.{place_after, Surveys}
 
 -- ---- the place of the first element that passes a test
 
@@ -103,14 +103,14 @@ module _ (test : Point → Bool) (x : Point) (rest : List Point) (found seen now
 
 -- ---- a scaled integer more
 
-pub number_more : (before now : Survey) (seen place : ℕ) (x : ℤ) (rest points : List Point) → place ≡ seen + 1
+pub number_more : (most : ℕ) (before now : Survey) (seen place : ℕ) (x : ℤ) (rest points : List Point) → place ≡ seen + 1
     → now.secondary ≡ before.secondary → now.missing ≡ before.missing → now.same ≡ before.same → now.present ≡ before.present + 1 → now.greatest ≡ max before.greatest (nat_abs x)
-    → place_after now.too_wide place is_too_wide rest ≡ place_after before.too_wide seen is_too_wide (Scaled x ∷ rest)
-    → Surveys before seen (Scaled x ∷ rest) points → Surveys now place rest points
-number_more before now seen place x rest points next secondary missing same present most wide h = record {
+    → place_after now.too_wide place (is_scaled_outside most) rest ≡ place_after before.too_wide seen (is_scaled_outside most) (Scaled x ∷ rest)
+    → Surveys most before seen (Scaled x ∷ rest) points → Surveys most now place rest points
+number_more most before now seen place x rest points next secondary missing same present greatest_is wide h = record {
   secondary = place-later is_missing2 (Scaled x) rest before.secondary seen now.secondary place next refl secondary ∙ h.secondary;
   too_wide = wide ∙ h.too_wide;
-  greatest_is = omega (arith, h.greatest_is, most);
+  greatest_is = omega (arith, h.greatest_is, greatest_is);
   present = omega (arith, h.present, present);
   missing = ap (λ (b : Bool). b || list_any is_missing rest) missing ∙ h.missing;
   same = same ∙ h.same;
@@ -118,32 +118,29 @@ number_more before now seen place x rest points next secondary missing same pres
 
 -- ---- the first misfit
 
-module _ (points : List Point) where
-  after-secondary : first_misfit ToSimple points ≡ first_of (misfit_at SecondaryMissing is_missing2 points) (misfit_at OutOfRange is_too_wide points)
-  after-secondary = refl
-
-  pub secondary_first : (place : ℕ) → place ≡ first_place is_missing2 points → 1 ≤ place → first_misfit ToSimple points ≡ Some (SecondaryMissing place)
+module _ (most : ℕ) (points : List Point) where
+  pub secondary_first : (place : ℕ) → place ≡ first_place is_missing2 points → 1 ≤ place → plain_misfit most points ≡ Some (SecondaryMissing place)
   secondary_first place is some =
-      ap (λ (m : Option Misfit). first_of m (misfit_at OutOfRange is_too_wide points)) (misfit-some SecondaryMissing is_missing2 points place is some)
+      ap (λ (m : Option Misfit). first_of m (misfit_at OutOfRange (is_scaled_outside most) points)) (misfit-some SecondaryMissing is_missing2 points place is some)
 
-  pub too_wide_first : (none place : ℕ) → none ≡ first_place is_missing2 points → place ≡ first_place is_too_wide points → none ≡ 0 → 1 ≤ place
-      → first_misfit ToSimple points ≡ Some (OutOfRange place)
+  pub too_wide_first : (none place : ℕ) → none ≡ first_place is_missing2 points → place ≡ first_place (is_scaled_outside most) points → none ≡ 0 → 1 ≤ place
+      → plain_misfit most points ≡ Some (OutOfRange place)
   too_wide_first none place is_none is nothing some =
-      ap (λ (m : Option Misfit). first_of m (misfit_at OutOfRange is_too_wide points)) (misfit-none SecondaryMissing is_missing2 points none is_none nothing)
-      ∙ misfit-some OutOfRange is_too_wide points place is some
+      ap (λ (m : Option Misfit). first_of m (misfit_at OutOfRange (is_scaled_outside most) points)) (misfit-none SecondaryMissing is_missing2 points none is_none nothing)
+      ∙ misfit-some OutOfRange (is_scaled_outside most) points place is some
 
-  pub all_fit : (none place : ℕ) → none ≡ first_place is_missing2 points → place ≡ first_place is_too_wide points → none ≡ 0 → place ≡ 0
-      → first_misfit ToSimple points ≡ None
+  pub all_fit : (none place : ℕ) → none ≡ first_place is_missing2 points → place ≡ first_place (is_scaled_outside most) points → none ≡ 0 → place ≡ 0
+      → plain_misfit most points ≡ None
   all_fit none place is_none is nothing none_wide =
-      ap (λ (m : Option Misfit). first_of m (misfit_at OutOfRange is_too_wide points)) (misfit-none SecondaryMissing is_missing2 points none is_none nothing)
-      ∙ misfit-none OutOfRange is_too_wide points place is none_wide
+      ap (λ (m : Option Misfit). first_of m (misfit_at OutOfRange (is_scaled_outside most) points)) (misfit-none SecondaryMissing is_missing2 points none is_none nothing)
+      ∙ misfit-none OutOfRange (is_scaled_outside most) points place is none_wide
 
 -- ---- point by point
 
-pub next_point : (survey : Survey) (points : List Point) (i : ℕ) (d : Point) → i < length points
-    → Surveys survey i (drop i points) points → Surveys survey i (get_or points i d ∷ drop (i + 1) points) points
-next_point survey points i d within h =
+pub next_point : (most : ℕ) (survey : Survey) (points : List Point) (i : ℕ) (d : Point) → i < length points
+    → Surveys most survey i (drop i points) points → Surveys most survey i (get_or points i d ∷ drop (i + 1) points) points
+next_point most survey points i d within h =
     let next : suc i ≡ i + 1 = omega arith in
     let both : drop i points ≡ get_or points i d ∷ drop (i + 1) points =
     drop-cons points i d within ∙ ap (λ (k : ℕ). get_or points i d ∷ drop k points) next in
-    subst (λ (ps : List Point). Surveys survey i ps points) both h
+    subst (λ (ps : List Point). Surveys most survey i ps points) both h

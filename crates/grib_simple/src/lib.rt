@@ -18,4 +18,7 @@ pub use grib_packing::{
 };
 pub use in_place::{number_words, pack_numbers};
 pub use numbers::{masked_points, unpack_numbers, unpack_points};
+pub use packed::bitmap_octets;
 pub use simple::{SimplePacking, check_simple, is_too_short, unpack_simple};
+pub use survey::Survey;
+pub use writing::bitmap_section;

@@ -9,6 +9,9 @@ use crate::writing::{bitmap_section, representation_section, values_section};
 use grib_packing::{Column, PackFault, Packed, bit_length, room_for};
 use std::alloc::Global;
 
+/// The greatest number of simple packing, which has 48 bits at most.
+const MOST: u64 = (1 << 48) - 1;
+
 /// Sections 5, 6 and 7 of a column: the numbers of the points that are not missing in the least bits,
 /// and a bitmap where a point is missing. `kind` is the type of the original values (code table 5.1).
 /// It looks at all points first, takes all its memory, and then writes. A field of one value, or wholly
@@ -23,7 +26,7 @@ pub fn pack_simply(alloc: Global, column: &Column, kind: u8) -> Result<Packed, P
     ensures { IsPacked ToSimple column.now kind result }
 {
     let points = column.points.as_slice();
-    let survey = Survey::of(points);
+    let survey = Survey::of(points, MOST);
     survey.fits()?;
     let bits = bit_length(survey.greatest);
     let octets = values_octets(survey.present, bits);
@@ -38,7 +41,7 @@ pub fn pack_simply(alloc: Global, column: &Column, kind: u8) -> Result<Packed, P
 }
 
 /// The octets of a Section 6, with bits for this many points where one is missing.
-fn bitmap_octets(points: u32, missing: bool) -> u32
+pub fn bitmap_octets(points: u32, missing: bool) -> u32
     requires { points ≤ 33554432 }
     ensures { result ≡ cond missing (6 + (points + 7) / 8) 6 }
 {

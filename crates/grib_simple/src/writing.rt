@@ -1,6 +1,6 @@
 //! Simple packing as it is written.
 
-ghost use Rattle.std.specs.Prelude.{◌≡◌, ◌+◌, ◌*◌, ◌/◌, ◌^◌, ◌<◌, ◌≤◌, ◌++◌, [], cond, not, false, replicate, length, All};
+ghost use Rattle.std.specs.Prelude.{◌≡◌, ◌+◌, ◌-◌, ◌*◌, ◌/◌, ◌^◌, ◌<◌, ◌≤◌, ◌++◌, [], cond, not, false, replicate, length, All};
 ghost use Rattle.std.specs.List.{list_any};
 ghost use Rattle.grib_bits.specs.Bits.{bits_of, digit};
 ghost use Rattle.grib_packing.specs.Misfits.{is_missing as is_missing_point, is_missing2};
@@ -145,7 +145,7 @@ pub fn values_section(
     octets: u32,
     mut room: BitWriter,
 ) -> List<u8>
-    requires survey { IsSurvey survey points.now }
+    requires survey { IsSurvey (2 ^ 48 - 1) survey points.now }
     requires width { bits ≤ 48 }
     requires fits { All (λ number. number < 2 ^ bits) (simple_numbers points.now) }
     requires octets { octets ≡ 5 + (length (simple_numbers points.now) * bits + 7) / 8 }
@@ -162,7 +162,7 @@ pub fn values_section(
 /// Writes the scaled integers, in this many bits each: nothing, where these are none. Where the
 /// numbers are known to be the same, no point is looked at.
 fn put_numbers(points: &[Point], survey: Survey, bits: u32, out: &mut BitWriter)
-    requires survey { IsSurvey survey points.now }
+    requires survey { IsSurvey (2 ^ 48 - 1) survey points.now }
     requires width { bits ≤ 48 }
     requires fits { All (λ number. number < 2 ^ bits) (simple_numbers points.now) }
     requires room { length (fields bits (simple_numbers points.now)) ≤ out.old.spare }

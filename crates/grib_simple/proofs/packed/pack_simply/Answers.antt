@@ -1,8 +1,10 @@
-use Rattle.std.proofs.Common.{◌≡◌, ◌^◌, ◌<◌, ◌≤◌, ℕ, List, length, None, All, sym, ap, ◌∙◌, subst, subst₂, arith}
+use Rattle.std.proofs.Common.{◌≡◌, ◌-◌, ◌^◌, ◌<◌, ◌≤◌, ℕ, List, length, None, All, sym, ap, ◌∙◌, subst, subst₂, arith}
+use Rattle.std.proofs.lemmas.Result.{err_from_is_err_and}
 use Rattle.grib_packing.specs.declared.column.Point.{Point}
 use Rattle.grib_packing.specs.declared.column.Column.{Column}
 use Rattle.grib_packing.specs.Groupings.{digits}
 use Rattle.grib_packing.specs.Misfits.{ToSimple, first_misfit}
+use Rattle.grib_packing.specs.Written.{IsPackFault}
 use Rattle.grib_packing.specs.Packed.{HasContents, HasNumbers, IsBitmap, IsSimple, fields, simple_numbers, simple_width}
 use Rattle.grib_simple.proofs.Fitting.{few_numbers, none_fail, width_few, width_fits}
 use Rattle.grib_simple.proofs.packed.pack_simply.Goals as goal
@@ -13,7 +15,7 @@ values_octets-octets-requires-clause-count c =
 
 module _ (c : goal.After-bit_length-bits) where
   fits : first_misfit ToSimple c.as_slice-points.result.now ≡ None
-  fits = c.in_ok-fits.ensures c.as_slice-points.result.now c.of-survey.ensures
+  fits = c.in_ok-fits.ensures (2 ^ 48 - 1) c.as_slice-points.result.now c.of-survey.ensures
 
   width : c.bit_length-bits.result ≡ simple_width c.as_slice-points.result.now
   width = c.bit_length-bits.ensures.is ∙ ap digits c.of-survey.ensures.greatest_is
@@ -23,12 +25,12 @@ values_octets-octets-requires-clause-bits c = omega (arith, width c, width_few c
 
 pub bitmap_section-requires-clause-one_kind : goal.bitmap_section-requires-clause-one_kind
 bitmap_section-requires-clause-one_kind c =
-    let both = none_fail c.as_slice-points.result.now (c.in_ok-fits.ensures c.as_slice-points.result.now c.of-survey.ensures) in
+    let both = none_fail c.as_slice-points.result.now (c.in_ok-fits.ensures (2 ^ 48 - 1) c.as_slice-points.result.now c.of-survey.ensures) in
     both.0
 
 few : (c : goal.After-bitmap_section) → c.bit_length-bits.result ≤ 48
 few c =
-    let none = c.in_ok-fits.ensures c.as_slice-points.result.now c.of-survey.ensures in
+    let none = c.in_ok-fits.ensures (2 ^ 48 - 1) c.as_slice-points.result.now c.of-survey.ensures in
     let width : c.bit_length-bits.result ≡ simple_width c.as_slice-points.result.now = c.bit_length-bits.ensures.is ∙ ap digits c.of-survey.ensures.greatest_is in
     omega (arith, width, width_few c.as_slice-points.result.now none)
 
@@ -38,7 +40,7 @@ values_section-requires-clause-width c = few c
 pub values_section-requires-clause-fits : goal.values_section-requires-clause-fits
 values_section-requires-clause-fits c =
     let points = c.as_slice-points.result.now in
-    let none = c.in_ok-fits.ensures points c.of-survey.ensures in
+    let none = c.in_ok-fits.ensures (2 ^ 48 - 1) points c.of-survey.ensures in
     let width : c.bit_length-bits.result ≡ simple_width points = c.bit_length-bits.ensures.is ∙ ap digits c.of-survey.ensures.greatest_is in
     subst (λ (w : ℕ). All (λ n. n < 2 ^ w) (simple_numbers points)) (sym width) (width_fits points none)
 
@@ -53,10 +55,16 @@ is_simple column points kind count bits s5 s6 s7 same is_count is_width long num
       (subst (λ (w : ℕ). HasContents 7 s7 (fields w (simple_numbers points))) is_width values);
 }
 
+pub returns-in_err-fits : goal.returns-in_err-fits
+returns-in_err-fits c =
+    let p = err_from_is_err_and c.from_residual.result c.from_residual.ensures.1 in
+    let fault = c.in_err-fits.ensures (2 ^ 48 - 1) c.as_slice-points.result.now c.of-survey.ensures in
+    rw (p.1, p.2) (subst (λ (ps : List Point). IsPackFault (first_misfit ToSimple ps) c.in_err-fits.field-0.0) c.as_slice-points.ensures fault)
+
 pub returns : goal.returns
 returns c =
     let points = c.as_slice-points.result.now in
-    let none = c.in_ok-fits.ensures points c.of-survey.ensures in
+    let none = c.in_ok-fits.ensures (2 ^ 48 - 1) points c.of-survey.ensures in
     let width : c.bit_length-bits.result ≡ simple_width points = c.bit_length-bits.ensures.is ∙ ap digits c.of-survey.ensures.greatest_is in (
       subst (λ (ps : List Point). first_misfit ToSimple ps ≡ None) c.as_slice-points.ensures none,
       is_simple c.args.column.now points c.args.kind c.of-survey.result.present c.bit_length-bits.result _ _ _ c.as_slice-points.ensures c.of-survey.ensures.present width

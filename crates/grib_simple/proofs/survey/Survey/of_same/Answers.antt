@@ -4,5 +4,5 @@ use Rattle.grib_simple.proofs.survey.Survey.of_same.Goals as goal
 
 pub returns : goal.returns
 returns c =
-    is_survey_same c.with-one.result _ c.args.point c.args.count c.requires refl refl refl refl refl
-    (c.with-one.ensures.survey [] (c.args.point ∷ []) (c.of_none.ensures.survey (c.args.point ∷ [])))
+    is_survey_same c.args.most c.with-one.result _ c.args.point c.args.count c.requires refl refl refl refl refl
+    (c.with-one.ensures.survey [] (c.args.point ∷ []) (c.of_none.ensures.survey c.args.most (c.args.point ∷ [])))

@@ -7,6 +7,6 @@ use Rattle.grib_simple.proofs.survey.Survey.with.Goals as goal
 pub returns-in-Scaled-clause-survey : goal.returns-in-Scaled-clause-survey
 returns-in-Scaled-clause-survey c rest points h =
     let fits : SFits w64 c.in-Scaled.x = search rules in
-    let here = subst (λ (p : Point). Surveys c.args.self (c.args.place - 1) (p ∷ rest) points) c.in-Scaled.is h in
+    let here = subst (λ (p : Point). Surveys c.args.most c.args.self (c.args.place - 1) (p ∷ rest) points) c.in-Scaled.is h in
     c.with_number.ensures.survey rest points
-    (subst (λ (z : ℤ). Surveys c.args.self (c.args.place - 1) (Scaled z ∷ rest) points) (sym (to_z-of_z fits)) here)
+    (subst (λ (z : ℤ). Surveys c.args.most c.args.self (c.args.place - 1) (Scaled z ∷ rest) points) (sym (to_z-of_z fits)) here)
