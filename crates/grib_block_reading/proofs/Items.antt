@@ -130,7 +130,7 @@ second_ended c s other bits rest reference n is long ends =
     (ap (λ m. and_then (front_list front_sequence m rest) (λ pairs rest'. Found (record { reference = reference; item = Second pairs }) rest')) (sym long)
     ∙ ap (λ f. and_then f (λ pairs rest'. Found (record { reference = reference; item = Second pairs }) rest')) ends)
 
-second_kind : (c : Coding) (s : Bool) (pairs : List ℕ) (kind : Kind) (codes : List ℕ) → IsSpread (skipped s) pairs kind codes → IsOfKind c (skipped s) kind (Second pairs) codes
+pub second_kind : (c : Coding) (s : Bool) (pairs : List ℕ) (kind : Kind) (codes : List ℕ) → IsSpread (skipped s) pairs kind codes → IsOfKind c (skipped s) kind (Second pairs) codes
 second_kind c s pairs (Zeros number) codes spread = absurd spread
 second_kind c s pairs Codes codes spread = record { one = λ place. refl; short = spread.0; codes_are = λ place. sym spread.1 }
 second_kind c s pairs Long codes spread = spread

@@ -5,3 +5,5 @@ pub mod Items
 pub mod Keeping
 pub mod Shown
 pub mod Whole
+pub mod Counted
+pub mod Within

@@ -23,7 +23,7 @@ pub record Going {S : Type 0} (kept : S → List Point → S → Type 0) (c : Co
   pub kept_are : IsKept kept c 0 0 (take count entries) first last now
   pub place : block < block_count c count → length entries ≡ block * c.block
 
-take_none : (n : ℕ) → take {A = Told} n [] ≡ []
+pub take_none : (n : ℕ) → take {A = Told} n [] ≡ []
 take_none zero = refl
 take_none (suc n) = refl
 
@@ -38,32 +38,32 @@ going {S} kept none c count start keeper =
       place = λ less. omega arith;
     }
 
-not_le : (a b : ℕ) → b < a → nat_le a b ≡ false
+pub not_le : (a b : ℕ) → b < a → nat_le a b ≡ false
 not_le a b less = grind (arith, nat_tests)
 
 -- an item more
-one_more : (c : Coding) (count block most : ℕ) (bits : List Bool) → block < block_count c count
+pub one_more : (c : Coding) (count block most : ℕ) (bits : List Bool) → block < block_count c count
     → items_from (suc most) c count block bits ≡ after_item c count block (λ block' rest. items_from most c count block' rest) (front_at c block bits)
 one_more c count block most bits less =
     ap (λ t. unless_ended t (λ _. after_item c count block (λ block' rest. items_from most c count block' rest) (front_at c block bits))) (not_le (block_count c count) block less)
 
-fault_by : (c : Coding) (count block : ℕ) (next : ℕ → List Bool → Decoded) (front : Front Coded) (fault : BlockFault) → outcome c count block front ≡ Some fault
+pub fault_by : (c : Coding) (count block : ℕ) (next : ℕ → List Bool → Decoded) (front : Front Coded) (fault : BlockFault) → outcome c count block front ≡ Some fault
     → after_item c count block next front ≡ ended_by (Some fault)
 fault_by c count block next Ended fault is = ap ended_by is
 fault_by c count block next (Found coded rest) fault is =
     ap (λ f. unless_fault f (entries_of c (block % c.interval) coded) (λ _. next (block + covered c (block % c.interval) coded.item) rest)) is
 
-found_by : (c : Coding) (count block blocks : ℕ) (next : ℕ → List Bool → Decoded) (coded : Coded) (rest : List Bool) → item_fault c count block coded ≡ None
+pub found_by : (c : Coding) (count block blocks : ℕ) (next : ℕ → List Bool → Decoded) (coded : Coded) (rest : List Bool) → item_fault c count block coded ≡ None
     → blocks ≡ covered c (block % c.interval) coded.item
     → after_item c count block next (Found coded rest) ≡ behind (entries_of c (block % c.interval) coded) (next (block + blocks) rest)
 found_by c count block blocks next coded rest none is =
     ap (λ f. unless_fault f (entries_of c (block % c.interval) coded) (λ _. next (block + covered c (block % c.interval) coded.item) rest)) none
     ∙ ap (λ n. behind (entries_of c (block % c.interval) coded) (next (block + n) rest)) (sym is)
 
-behind_behind : (one two : List Told) (d : Decoded) → behind one (behind two d) ≡ behind (one ++ two) d
+pub behind_behind : (one two : List Told) (d : Decoded) → behind one (behind two d) ≡ behind (one ++ two) d
 behind_behind one two d = ap (λ es. record { entries = es; fault = d.fault }) (sym (append_assoc one two d.entries))
 
-take_behind : (count : ℕ) (one two : List Told) → length one ≤ count → take count (one ++ two) ≡ one ++ take (count - length one) two
+pub take_behind : (count : ℕ) (one two : List Told) → length one ≤ count → take count (one ++ two) ≡ one ++ take (count - length one) two
 take_behind count one two less =
     let sum : length one + (count - length one) ≡ count = omega arith in
     ap (λ n. take n (one ++ two)) (sym sum)
@@ -111,7 +111,7 @@ faulty kept c count start first index block bits last now fault more less so is 
     one_more c count block left bits less ∙ fault_by c count block (λ block' rest'. items_from left c count block' rest') (front_at c block bits) fault is in
     ap (λ (d : Decoded). d.fault) (so.whole ∙ (ap (λ n. behind so.entries (items_from n c count block bits)) one_less ∙ ap (behind so.entries) step))
 
-over_by : (c : Coding) (count block most : ℕ) (bits : List Bool) → block_count c count ≤ block → items_from most c count block bits ≡ ended_by None
+pub over_by : (c : Coding) (count block most : ℕ) (bits : List Bool) → block_count c count ≤ block → items_from most c count block bits ≡ ended_by None
 over_by c count block zero bits less = refl
 over_by c count block (suc most) bits less =
     ap (λ t. unless_ended t (λ _. after_item c count block (λ block' rest. items_from most c count block' rest) (front_at c block bits))) (le-leb (block_count c count) block less)

@@ -5,7 +5,7 @@ use Rattle.grib_coding.specs.declared.coding.Coding.{Coding}
 use Rattle.grib_coding.specs.declared.fault.BlockFault.{BlockFault}
 use Rattle.grib_coding.specs.declared.fault.BlockFault.TheVariants.{Short}
 use Rattle.grib_coding.specs.Coding.{is_mapped}
-use Rattle.grib_coding.specs.Items.{Item, covered}
+use Rattle.grib_coding.specs.Items.{covered}
 use Rattle.grib_coding.specs.Reading.{Front, Ended, Found, Coded, front_item, padded, item_fault, entries_of}
 use Rattle.grib_block_reading.specs.Kept.{IsKept}
 

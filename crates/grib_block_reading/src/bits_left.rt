@@ -10,7 +10,7 @@ use std::marker::Model;
 
 /// The bits of some octets from a place on. A clause sees them.
 #[derive(Debug, Drop)]
-pub(crate) struct BitsLeft<'a> {
+pub struct BitsLeft<'a> {
     octets: &'a [u8],
     at: u64,
 }
@@ -28,16 +28,34 @@ impl<'a> Model for BitsLeft<'a> {
 
 impl<'a> BitsLeft<'a> {
     /// All bits of `octets`.
-    pub(crate) fn of(octets: &'a [u8]) -> BitsLeft<'a>
+    pub fn of(octets: &'a [u8]) -> BitsLeft<'a>
         requires { length octets.now < 2 ^ 32 }
         ensures { result ≡ bits_in octets.now }
     {
         BitsLeft { octets, at: 0 }
     }
 
+    /// The bits of `octets` after the first `at` ones.
+    #[inline]
+    pub fn after(octets: &'a [u8], at: u64) -> BitsLeft<'a>
+        requires short { length octets.now < 2 ^ 32 }
+        requires within { at ≤ 8 * length octets.now }
+        ensures { result ≡ drop at (bits_in octets.now) }
+    {
+        BitsLeft { octets, at }
+    }
+
+    /// How many bits are left.
+    #[inline]
+    pub fn len(&self) -> u64
+        ensures { result ≡ length self.now }
+    {
+        8 * self.octets.len() as u64 - self.at
+    }
+
     /// The number of the next `width` bits.
     #[inline]
-    pub(crate) fn number(&mut self, width: u32) -> Option<u64>
+    pub fn number(&mut self, width: u32) -> Option<u64>
         requires { width ≤ 64 }
         ensures found { front_number width self.old ≡ front_of result self.new }
         ensures fits { IfSome result (λ number. number < 2 ^ width) }
@@ -53,7 +71,7 @@ impl<'a> BitsLeft<'a> {
 
     /// How many zero bits stand before the next one bit; both are skipped.
     #[inline]
-    pub(crate) fn sequence(&mut self) -> Option<u64>
+    pub fn sequence(&mut self) -> Option<u64>
         ensures found { front_sequence self.old ≡ front_of result self.new }
         ensures short { IfSome result (λ number. number < 2 ^ 35) }
     {
@@ -64,7 +82,7 @@ impl<'a> BitsLeft<'a> {
 
     /// Drops the next bits up to a whole number of octets.
     #[inline]
-    pub(crate) fn drop_to_octet(&mut self)
+    pub fn drop_to_octet(&mut self)
         ensures { self.new ≡ drop (length self.old % 8) self.old }
     {
         self.at = self.at.div_ceil(8) * 8;

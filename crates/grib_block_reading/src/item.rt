@@ -12,8 +12,8 @@ use crate::pairs::{has_long, spread_behind_reference, spread_pairs};
 use grib_coding::Coding;
 
 /// What an item is, but for its codes.
-#[derive(Clone, Copy)]
-pub(crate) enum Kind {
+#[derive(Clone, Copy, Debug)]
+pub enum Kind {
     /// A run of zero blocks, and the number that counts them.
     Zeros(u64),
     /// A block of codes.
@@ -23,14 +23,16 @@ pub(crate) enum Kind {
 }
 
 /// The reference of an item, if it has one, and what it is.
-#[derive(Clone, Copy)]
-pub(crate) struct Head {
-    pub(crate) reference: Option<u32>,
-    pub(crate) kind: Kind,
+#[derive(Clone, Copy, Debug)]
+pub struct Head {
+    /// The number that the first code of the block is left out for.
+    pub reference: Option<u32>,
+    /// What the item is.
+    pub kind: Kind,
 }
 
 /// Reads an item whose codes, but for the one that a reference stands for, go to `codes`.
-pub(crate) fn read_item(
+pub fn read_item(
     bits: &mut BitsLeft<'_>,
     coding: Coding,
     with_reference: bool,
@@ -103,12 +105,13 @@ fn read_second(
     let mut numbers = [0; 32];
     let numbers = &mut numbers[..usize::from(coding.block / 2)];
     read_sequences(bits, numbers)?;
-    let kind = spread(numbers, with_reference, codes);
+    let kind = spread_second(numbers, with_reference, codes);
     Some(Head { reference, kind })
 }
 
-/// The codes of a second extension with these numbers, unless one is too long.
-fn spread(numbers: &[u64], with_reference: bool, codes: &mut [u64]) -> Kind
+/// The codes of a second extension with these numbers, but for the one that a reference stands for, unless a number is
+/// over 90: then they may be any.
+pub fn spread_second(numbers: &[u64], with_reference: bool, codes: &mut [u64]) -> Kind
     requires some { 1 ≤ length numbers.now }
     requires room { length codes.old + skipped with_reference ≡ 2 * length numbers.now }
     ensures { IsSpread (skipped with_reference) numbers.now result codes.new }

@@ -12,10 +12,12 @@ use grib_mapped::unmap;
 use grib_packing::{Keeper, Point};
 
 /// What the numbers of values went to, and the last of them.
-#[derive(Drop)]
-pub(crate) struct Kept<K> {
-    pub(crate) keeper: K,
-    pub(crate) last: u32,
+#[derive(Debug, Drop)]
+pub struct Kept<K> {
+    /// What keeps the points.
+    pub keeper: K,
+    /// The last number, 0 before the first one.
+    pub last: u32,
 }
 
 /// Keeps a reference, if there is one.

@@ -23,6 +23,16 @@ pub(crate) struct Taken<K> {
     pub(crate) kept: Kept<K>,
 }
 
+/// How many blocks an item that was read covers, or what is wrong with it, and what its numbers went to: none where
+/// it is at fault.
+#[derive(Debug, Drop)]
+pub struct ReadItem<K> {
+    /// How many blocks it covers, or what is wrong with it.
+    pub blocks: Result<u32, BlockFault>,
+    /// What its numbers went to.
+    pub kept: Kept<K>,
+}
+
 /// Takes the item whose first block is `block`, of `count` values.
 pub(crate) fn take_item<K: Keeper + Drop>(
     bits: &mut BitsLeft<'_>,
@@ -47,11 +57,18 @@ pub(crate) fn take_item<K: Keeper + Drop>(
     let Some(head) = read_item(bits, coding, with_reference, codes) else {
         return Err(BlockFault::Short);
     };
-    take_read(head, coding, count, block, codes, kept)
+    let read = take_read(head, coding, count, block, codes, kept);
+    match read.blocks {
+        Ok(blocks) => Ok(Taken {
+            blocks,
+            kept: read.kept,
+        }),
+        Err(fault) => Err(fault),
+    }
 }
 
 /// Passes what may stand before the first item of an interval.
-fn skip_padding(bits: &mut BitsLeft<'_>, coding: Coding, block: u32)
+pub fn skip_padding(bits: &mut BitsLeft<'_>, coding: Coding, block: u32)
     requires { Fits coding }
     ensures { bits.new ≡ padded coding (block % coding.interval == 0) bits.old }
 {
@@ -61,22 +78,23 @@ fn skip_padding(bits: &mut BitsLeft<'_>, coding: Coding, block: u32)
 }
 
 /// Whether the item that begins with a block has a reference.
-fn is_referred(coding: Coding, block: u32) -> bool
+pub fn is_referred(coding: Coding, block: u32) -> bool
     requires { Fits coding }
     ensures { result ≡ has_reference coding block }
 {
     block % u32::from(coding.interval) == 0 && coding.is_mapped()
 }
 
-/// Takes an item that was read.
-fn take_read<K: Keeper + Drop>(
+/// Takes an item that was read as a whole, whose first block is `block`, of `count` values, and whose codes, but for
+/// the one that a reference stands for, are these.
+pub fn take_read<K: Keeper>(
     head: Head,
     coding: Coding,
     count: u32,
     block: u32,
     codes: &[u64],
     kept: Kept<K>,
-) -> Result<Taken<K>, BlockFault>
+) -> ReadItem<K>
     requires fits { Fits coding }
     requires few { count ≤ 33554432 }
     requires some { block * coding.block < count }
@@ -84,21 +102,24 @@ fn take_read<K: Keeper + Drop>(
     requires room { length codes.now + skipped (has_reference coding block) ≡ coding.block }
     requires reference { HasReference coding (has_reference coding block) head.reference }
     ensures { (item : Item) → IsOfKind coding (skipped (has_reference coding block)) head.kind item codes.now
-        → let coded = coded_of head.reference item in MatchResult result
-        (λ taken. ItemPassed K.kept coding count block coded kept.last kept.keeper taken.blocks taken.kept.last taken.kept.keeper)
-        (λ fault. item_fault coding count block coded ≡ Some fault) }
+        → let coded = coded_of head.reference item in MatchResult result.blocks
+        (λ blocks. ItemPassed K.kept coding count block coded kept.last kept.keeper blocks result.kept.last result.kept.keeper)
+        (λ fault. (item_fault coding count block coded ≡ Some fault) × (result.kept ≡ kept)) }
 {
     let place = block % u32::from(coding.interval);
     let blocks = blocks_covered(coding, place, head.kind);
     if blocks > u64::from(u32::from(coding.interval) - place) {
-        return Err(BlockFault::Block(block + 1));
+        return faulty(BlockFault::Block(block + 1), kept);
     }
     let blocks = blocks as u32;
     let values = values_shown(coding, count, block, blocks, head.reference);
     match head.kind {
         Kind::Zeros(_) => {
             let kept = keep_zero_blocks(kept, coding, head.reference, values);
-            Ok(Taken { blocks, kept })
+            ReadItem {
+                blocks: Ok(blocks),
+                kept,
+            }
         }
         Kind::Codes => take_codes(
             head.reference,
@@ -107,36 +128,49 @@ fn take_read<K: Keeper + Drop>(
             &codes[..values as usize],
             kept,
         ),
-        Kind::Long => Err(BlockFault::Block(block + 1)),
+        Kind::Long => faulty(BlockFault::Block(block + 1), kept),
+    }
+}
+
+/// An item at fault, of which nothing was kept.
+fn faulty<K>(fault: BlockFault, kept: Kept<K>) -> ReadItem<K>
+    ensures { result ≡ record { blocks = Err fault; kept = kept } }
+{
+    ReadItem {
+        blocks: Err(fault),
+        kept,
     }
 }
 
 /// Takes the codes of a block that are of values, after a reference, if there is one.
-fn take_codes<K: Keeper + Drop>(
+fn take_codes<K: Keeper>(
     reference: Option<u32>,
     coding: Coding,
     block: u32,
     codes: &[u64],
     kept: Kept<K>,
-) -> Result<Taken<K>, BlockFault>
+) -> ReadItem<K>
     requires fits { Fits coding }
     requires few { length codes.now ≤ 64 }
     requires some { block * coding.block < 33554432 }
     requires last { kept.last ≤ greatest coding }
     requires reference { IsWithin coding reference }
-    ensures { MatchResult result
-        (λ taken. (taken.blocks ≡ 1) × (position (λ code. nat_lt (greatest coding) code) codes.now ≡ None) × ((place : ℕ) → StandsAt coding place reference
+    ensures { MatchResult result.blocks
+        (λ blocks. (blocks ≡ 1) × (position (λ code. nat_lt (greatest coding) code) codes.now ≡ None) × ((place : ℕ) → StandsAt coding place reference
         → NoReference coding (place + length (reference_entries reference)) (length codes.now)
-        → IsKept K.kept coding place kept.last (reference_entries reference ++ map Code codes.now) kept.keeper taken.kept.last taken.kept.keeper))
+        → IsKept K.kept coding place kept.last (reference_entries reference ++ map Code codes.now) kept.keeper result.kept.last result.kept.keeper))
         (λ fault. (place : ℕ) × (position (λ code. nat_lt (greatest coding) code) codes.now ≡ Some place)
-        × (fault ≡ BlockFault.Value (block * coding.block + length (reference_entries reference) + place + 1))) }
+        × (fault ≡ BlockFault.Value (block * coding.block + length (reference_entries reference) + place + 1)) × (result.kept ≡ kept)) }
 {
     if let Some(place) = first_over(codes, coding.greatest()) {
         let before = block * u32::from(coding.block) + u32::from(reference.is_some());
-        return Err(BlockFault::Value(before + place as u32 + 1));
+        return faulty(BlockFault::Value(before + place as u32 + 1), kept);
     }
     let kept = keep_block(kept, coding, reference, codes);
-    Ok(Taken { blocks: 1, kept })
+    ReadItem {
+        blocks: Ok(1),
+        kept,
+    }
 }
 
 /// How many codes of an item are of values, where it covers so many blocks and may have a reference.

@@ -2,6 +2,8 @@ pub mod Choosing
 pub mod Octets
 pub mod Numbers
 pub mod Groups
+pub mod Blocks
 pub mod Written
 pub mod Unique
 pub mod Short
+pub mod InBlocks

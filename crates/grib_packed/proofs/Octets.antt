@@ -61,6 +61,9 @@ below-section number contents small each =
     All-append (λ octet. octet < 256) (octets_of 4 (5 + length contents)) (number ∷ contents) (All-octets_of 4 (5 + length contents))
     (All-cons (λ octet. octet < 256) number contents small each)
 
+pub length-section : (number : ℕ) (contents : List Bool) → length (section_with number contents) ≡ 5 + (length contents + 7) / 8
+length-section number contents = omega (arith, length-with contents)
+
 -- a section with contents that its length can tell
 pub has_contents : (number : ℕ) (contents : List Bool) → number < 256 → length contents < 2 ^ 34 → HasContents number (section_with number contents) contents
 has_contents number contents small short = record {

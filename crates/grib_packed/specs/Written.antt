@@ -1,5 +1,5 @@
 -- What packing writes, as a function: Sections 5, 6 and 7 of a column (WMO-No. 306, Volume I.2, FM 92 GRIB
--- edition 2, templates 5.0, 5.2, 5.3, 7.0, 7.2 and 7.3). The relation `Packed` of grib_packing says what
+-- edition 2, templates 5.0, 5.2, 5.3, 5.42, 7.0, 7.2, 7.3 and 7.42). The relation `Packed` of grib_packing says what
 -- these sections have to be; laws say that they are it, and that no others are.
 use Rattle.std.specs.Prelude.{ℕ, ◌-◌, ◌^◌, ◌<◌, Bool, cond, List, ◌++◌, length, get_or}
 use Rattle.std.specs.List.{list_any}
@@ -11,8 +11,9 @@ use Rattle.grib_packing.specs.declared.column.Column.{Column}
 use Rattle.grib_packing.specs.declared.layout.Layout.{Layout}
 use Rattle.grib_packing.specs.Differences.{descriptors_of}
 use Rattle.grib_packing.specs.Groupings.{header_bits, length_bits, reference_bits_of, width_bits_of, width_of}
-use Rattle.grib_packing.specs.Misfits.{Target, ToSimple, ToComplex, ToSpatial, is_missing, management_of, scaled_numbers}
-use Rattle.grib_packing.specs.Packed.{descriptor_fields, descriptor_size, fields, group_parts, no_bitmap_section, present_bits, simple_numbers, simple_width, target_codes}
+use Rattle.grib_coding.specs.declared.coding.Coding.{Coding}
+use Rattle.grib_packing.specs.Misfits.{Target, ToSimple, ToComplex, ToSpatial, ToCoded, is_missing, management_of, scaled_numbers}
+use Rattle.grib_packing.specs.Packed.{blocks_written, coding_to, descriptor_fields, descriptor_size, fields, group_parts, no_bitmap_section, present_bits, simple_numbers, simple_width, target_codes}
 use Rattle.grib_packing.specs.declared.written.Packed.{Packed}
 use Rattle.grib_packing.specs.Sections.{number_octets}
 use Rattle.grib_complex.specs.Written.{layout_octets}
@@ -25,14 +26,18 @@ pub record HasWords (column : Column) : Type 0 where
   pub binary_scale : column.e < 2 ^ 16
   pub decimal_scale : column.d < 2 ^ 16
 
--- To simple packing: the numbers of the present points, and a bitmap where a point is missing.
+-- Section 6 where marks do not stand among the values: a bitmap where a point is missing.
+abbrev pub bitmap_section : List Point → List ℕ
+bitmap_section points = section_with 6 (cond (list_any is_missing points) (bits_of 8 0 ++ present_bits points) (bits_of 8 255))
+
+-- To simple packing: the numbers of the present points, and a bitmap.
 abbrev pub simple_sections : Column → ℕ → Packed
 simple_sections column kind =
     let points = column.points in
     let width = simple_width points in
     record {
       section5 = section_of 5 (number_octets column (length (simple_numbers points)) 0 width kind);
-      section6 = section_with 6 (cond (list_any is_missing points) (bits_of 8 0 ++ present_bits points) (bits_of 8 255));
+      section6 = bitmap_section points;
       section7 = section_with 7 (fields width (simple_numbers points));
     }
 
@@ -88,8 +93,24 @@ spatial_sections order column kind =
       section7 = section_with 7 (descriptor_fields d ++ group_bits (ToSpatial order) column.points);
     }
 
+-- To CCSDS packing: the numbers and the bitmap of simple packing. What the numbers are coded by, octets 22 to 25,
+abbrev pub coding_octets : Coding → List ℕ
+coding_octets c = octets_of 1 c.flags ++ octets_of 1 c.block ++ octets_of 2 c.interval
+
+-- and their blocks.
+abbrev pub coded_sections : ℕ → ℕ → Column → ℕ → Packed
+coded_sections block interval column kind =
+    let points = column.points in
+    let coding = coding_to block interval points in
+    record {
+      section5 = section_of 5 (number_octets column (length (simple_numbers points)) 42 coding.bits kind ++ coding_octets coding);
+      section6 = bitmap_section points;
+      section7 = section_with 7 (blocks_written coding (simple_numbers points));
+    }
+
 -- what a packing to a target writes; `kind` is the type of the original values (code table 5.1), octet 21
 unfoldable pub packed : Target → Column → ℕ → Packed
 packed ToSimple column kind = simple_sections column kind
 packed ToComplex column kind = complex_sections column kind
 packed (ToSpatial order) column kind = spatial_sections order column kind
+packed (ToCoded block interval) column kind = coded_sections block interval column kind

@@ -32,10 +32,10 @@ pub fn one_packing_is_written()
         (s5 ≡ p.section5) × (s6 ≡ p.section6) × (s7 ≡ p.section7) }
 {}
 
-/// Where nothing of a column fails to fit, the three sections have at most 11 octets a point, and 200 more.
+/// Where nothing of a column fails to fit, the three sections have at most 11 octets a point, and 300 more.
 pub fn few_octets_are_written()
     ensures { (target : Target) (column : column_packing.Column) (kind : ℕ)
         → MayBePacked column → IsTarget target → first_misfit target column.points ≡ None
         → let p = packed target column kind in
-        length p.section5 + length p.section6 + length p.section7 ≤ 11 * length column.points + 200 }
+        length p.section5 + length p.section6 + length p.section7 ≤ 11 * length column.points + 300 }
 {}

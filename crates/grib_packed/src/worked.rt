@@ -6,7 +6,7 @@ ghost use Rattle.std.specs.Prelude.{◌≡◌, [], ◌∷◌, negsuc};
 ghost use Rattle.grib_base.specs.declared.code.Code.TheVariants.{Present};
 ghost use Rattle.grib_packing.specs.declared.column.Point.TheVariants.{Scaled, Missing, Missing2};
 ghost use Rattle.grib_packing.specs.Groupings.{width_of};
-ghost use Rattle.grib_packing.specs.Misfits.{ToSimple, ToComplex, ToSpatial};
+ghost use Rattle.grib_packing.specs.Misfits.{ToSimple, ToComplex, ToSpatial, ToCoded};
 ghost use Rattle.grib_packed.specs.Chosen.{chosen};
 ghost use Rattle.grib_packed.specs.Worked.{column, scaled};
 ghost use Rattle.grib_packed.specs.Written.{packed};
@@ -86,4 +86,24 @@ pub fn second_differences()
         ∷ 0x00 ∷ 0x00 ∷ 0x00 ∷ 0x04 ∷ 0x06 ∷ 0x02 ∷ 0x01 ∷ [] }
     ensures values { (packed (ToSpatial 2) (column (scaled 10 ∷ scaled 12 ∷ scaled 15 ∷ scaled 19 ∷ [])) 0).section7
         ≡ 0x00 ∷ 0x00 ∷ 0x00 ∷ 0x09 ∷ 0x07 ∷ 0x0A ∷ 0x0C ∷ 0x01 ∷ 0x0C ∷ [] }
+{}
+
+/// Blocks of 8 and a reference each 128 blocks: the four numbers of 8 bits are one block, in which zeros follow the
+/// codes 1, 2 and 255. The item is the reference 0 and codes whose 5 low bits stand apart.
+pub fn numbers_in_a_block()
+    ensures representation { (packed (ToCoded 8 128) (column (scaled 0 ∷ scaled 1 ∷ scaled 2 ∷ scaled 255 ∷ [])) 0).section5
+        ≡ 0x00 ∷ 0x00 ∷ 0x00 ∷ 0x19 ∷ 0x05 ∷ 0x00 ∷ 0x00 ∷ 0x00 ∷ 0x04 ∷ 0x00 ∷ 0x2A ∷ 0xC2 ∷ 0xED ∷ 0x40
+        ∷ 0x00 ∷ 0x80 ∷ 0x03 ∷ 0x00 ∷ 0x01 ∷ 0x08 ∷ 0x00 ∷ 0x0E ∷ 0x08 ∷ 0x00 ∷ 0x80 ∷ [] }
+    ensures bitmap { (packed (ToCoded 8 128) (column (scaled 0 ∷ scaled 1 ∷ scaled 2 ∷ scaled 255 ∷ [])) 0).section6
+        ≡ 0x00 ∷ 0x00 ∷ 0x00 ∷ 0x06 ∷ 0x06 ∷ 0xFF ∷ [] }
+    ensures values { (packed (ToCoded 8 128) (column (scaled 0 ∷ scaled 1 ∷ scaled 2 ∷ scaled 255 ∷ [])) 0).section7
+        ≡ 0x00 ∷ 0x00 ∷ 0x00 ∷ 0x0D ∷ 0x07 ∷ 0xC0 ∷ 0x18 ∷ 0x0F ∷ 0x84 ∷ 0x5F ∷ 0x00 ∷ 0x00 ∷ 0x00 ∷ [] }
+{}
+
+/// Numbers that are all 0 take no bits here either, and a missing point stands in the bitmap.
+pub fn coded_numbers_without_bits()
+    ensures bitmap { (packed (ToCoded 32 128) (column (scaled 0 ∷ Missing ∷ [])) 0).section6
+        ≡ 0x00 ∷ 0x00 ∷ 0x00 ∷ 0x07 ∷ 0x06 ∷ 0x00 ∷ 0x80 ∷ [] }
+    ensures values { (packed (ToCoded 32 128) (column (scaled 0 ∷ Missing ∷ [])) 0).section7
+        ≡ 0x00 ∷ 0x00 ∷ 0x00 ∷ 0x05 ∷ 0x07 ∷ [] }
 {}

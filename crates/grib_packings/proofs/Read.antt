@@ -18,11 +18,12 @@ use Rattle.grib_complex.proofs.Starting.{plain_values}
 use Rattle.grib_complex.proofs.Told.{length-told}
 use Rattle.grib_packings.specs.declared.feeding.Feeding.{Feeding}
 use Rattle.grib_packings.specs.declared.reading.Reading.{Reading}
-use Rattle.grib_packings.specs.declared.reading.Reading.TheVariants.{Simple, Complex}
+use Rattle.grib_packings.specs.declared.reading.Reading.TheVariants.{Simple, Complex, Coded}
 use Rattle.grib_packings.specs.declared.simple_reading.SimpleReading.{SimpleReading}
 use Rattle.grib_packings.specs.declared.simple_reading.SimpleReading.TheVariants.{Reads, Passes, Refused}
 use Rattle.grib_packings.specs.Feeding.{Agrees, HasColumn, HasRead, HasReading, KeepsMask, octets_left}
 use Rattle.grib_packings.specs.Reading.{ReadingAgrees, SimpleAgrees, SimpleColumnAgrees, pending_in, simply_in, simply_pending}
+use Rattle.grib_packings.proofs.Coded.{coded_column, coded_mask}
 use Rattle.grib_packings.proofs.Simply.{simply_counted}
 
 -- ---- pending bits
@@ -43,6 +44,7 @@ reading_pends kept s5 keeper start l octets (Simple reading) agrees = simply_pen
 reading_pends kept s5 keeper start l octets (Complex reading) agrees =
     let pends = state_pends kept s5 keeper start l octets reading agrees in
     record { few = pends.few; last = pends.last }
+reading_pends kept s5 keeper start l octets (Coded reading) agrees = record { few = omega arith; last = none_pending octets }
 
 -- ---- a feeder
 
@@ -97,11 +99,13 @@ module _ (s5 : List ℕ) (mask : List Bool) (start l : ℕ) (octets : List ℕ) 
   mask_stays None agrees = agrees
   mask_stays (Some (Simple reading)) agrees = simple_mask reading agrees
   mask_stays (Some (Complex reading)) agrees = state_mask s5 mask start l octets first empty counted reading agrees
+  mask_stays (Some (Coded reading)) agrees = coded_mask s5 mask first empty counted octets reading agrees
 
   column_stands : (reading : Option (Reading Points)) → HasReading PointsKept s5 first start l octets reading → HasColumn s5 mask l octets reading
   column_stands None agrees = agrees
   column_stands (Some (Simple reading)) agrees = simple_column reading agrees
   column_stands (Some (Complex reading)) agrees = state_column s5 mask start l octets first empty counted reading agrees
+  column_stands (Some (Coded reading)) agrees = coded_column s5 mask first empty counted octets reading agrees
 
   -- what was read agrees
   pub column_agrees : (feeder : Feeding Points) → HasRead PointsKept s5 first start l octets feeder → Agrees s5 mask start l octets feeder

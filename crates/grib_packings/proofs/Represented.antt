@@ -1,9 +1,10 @@
 -- Lemmas on what Section 5 says of a field.
-use Rattle.std.proofs.Common.{◌≤◌, ℕ, List, arith}
+use Rattle.std.proofs.Common.{◌≡◌, ◌≤◌, ℕ, List, arith, sym, ◌∙◌}
 use Rattle.grib_packing.specs.declared.representation.Simple.{Simple}
-use Rattle.grib_packing.specs.Packing.{packing_template}
+use Rattle.grib_packing.specs.Packing.{packing_template, value_count}
 use Rattle.grib_packing.proofs.Packings.{most-simple, packing_passes}
 use Rattle.grib_complex.specs.declared.representation.Complex.{Complex}
+use Rattle.grib_packings.specs.declared.representation.Representation.{Representation}
 use Rattle.grib_packings.specs.declared.representation.Representation.TheVariants as field
 use Rattle.grib_complex.specs.Descriptors.{IsAccepted}
 use Rattle.grib_packings.specs.Field.{Represents}
@@ -15,3 +16,9 @@ simple_width numbers s5 read =
 
 pub complex_accepted : (numbers : Complex) (s5 : List ℕ) → Represents (field.Complex numbers) s5 → IsAccepted numbers
 complex_accepted numbers s5 read = accepted_from numbers s5 read.points read.accepted read.numbers.1 read.numbers.0
+
+-- sections of which it says the same have as many values
+pub values_alike : (representation : Representation) (s5 other : List ℕ) → Represents representation s5 → Represents representation other → value_count s5 ≡ value_count other
+values_alike (field.Simple numbers) s5 other one two = sym one.numbers.1.values ∙ two.numbers.1.values
+values_alike (field.Complex numbers) s5 other one two = sym one.numbers.1.simple.values ∙ two.numbers.1.simple.values
+values_alike (field.Coded numbers) s5 other one two = sym one.numbers.1.simple.values ∙ two.numbers.1.simple.values

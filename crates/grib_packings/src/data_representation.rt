@@ -1,6 +1,6 @@
 //! What Section 5 says of a field, where its packing may be opaque.
 
-ghost use Rattle.std.specs.Prelude.{◌≡◌, ℕ, List, true, false, None, Some, MatchOption, MatchResult};
+ghost use Rattle.std.specs.Prelude.{◌≡◌, ℕ, ◌≤◌, List, true, false, None, Some, MatchOption, MatchResult};
 ghost use Rattle.grib_base.specs.declared.profile.Profile.TheVariants.{Open};
 ghost use Rattle.grib_base.specs.Faults.{AreTried};
 ghost use Rattle.grib_base.specs.Rows.{located};
@@ -10,7 +10,7 @@ ghost use Rattle.grib_packings.specs.Field.{IsDataOf, Represents};
 
 use crate::Representation;
 use grib_base::{Fault, Profile, ReadFault, Section};
-use grib_packing::{Opaque, is_opaque, read_opaque};
+use grib_packing::{Opaque, check_stated, is_opaque, read_opaque};
 use std::alloc::Global;
 
 /// What Section 5 says of a field whose values can be read, or of one with an opaque packing (WMO-No. 306, Volume I.2,
@@ -24,7 +24,7 @@ pub enum DataRepresentation {
 }
 
 impl DataRepresentation {
-    /// Reads a Section 5 under a profile, where the grid has this many points.
+    /// Reads a Section 5 under a profile, where the grid has this many points, at most 33,554,432.
     ///
     /// # Errors
     ///
@@ -34,16 +34,23 @@ impl DataRepresentation {
         section5: &Section<'_>,
         points: u32,
     ) -> Result<DataRepresentation, Fault>
+        requires { points ≤ 33554432 }
         ensures { MatchResult result
             (λ value. (packing_fault_under profile section5.now.octets.now points ≡ None)
             × IsDataOf value section5.now.octets.now)
             (λ fault. located section5.now.start (packing_fault_under profile section5.now.octets.now points)
             ≡ Some fault) }
     {
-        if is_taken_opaque(profile, section5.octets) {
-            return Ok(DataRepresentation::Opaque(read_opaque(section5, points)?));
+        match profile {
+            Profile::Stated => {
+                check_stated(section5)?;
+                read_listed(section5, points)
+            }
+            Profile::Open if is_taken_opaque(section5.octets) => {
+                Ok(DataRepresentation::Opaque(read_opaque(section5, points)?))
+            }
+            Profile::Open => read_listed(section5, points),
         }
-        Ok(DataRepresentation::Read(Representation::read(section5, points)?))
     }
 
     /// The number of values that Section 7 gives.
@@ -85,15 +92,22 @@ impl DataRepresentation {
     }
 }
 
-/// Whether a Section 5, by its octets, is one whose template is not asked for under a profile. One that is too short for
+/// Whether a Section 5, by its octets, is one whose template the open profile does not ask for. One that is too short for
 /// a template is not.
-fn is_taken_opaque(profile: Profile, octets: &[u8]) -> bool
-    ensures opaque { result ≡ true → (profile ≡ Open) × (is_opaque_packing octets.now ≡ true) }
+fn is_taken_opaque(octets: &[u8]) -> bool
+    ensures opaque { result ≡ true → is_opaque_packing octets.now ≡ true }
     ensures known { result ≡ false → (points : ℕ)
-        → packing_fault_under profile octets.now points ≡ packing_fault octets.now points }
+        → packing_fault_under Open octets.now points ≡ packing_fault octets.now points }
 {
-    match profile {
-        Profile::Stated => false,
-        Profile::Open => octets.len() >= 11 && is_opaque(octets),
-    }
+    octets.len() >= 11 && is_opaque(octets)
+}
+
+/// Reads a Section 5 with a packing whose values are read, where the grid has this many points.
+fn read_listed(section5: &Section<'_>, points: u32) -> Result<DataRepresentation, Fault>
+    requires { points ≤ 33554432 }
+    ensures { MatchResult result
+        (λ value. (packing_fault section5.now.octets.now points ≡ None) × IsDataOf value section5.now.octets.now)
+        (λ fault. located section5.now.start (packing_fault section5.now.octets.now points) ≡ Some fault) }
+{
+    Ok(DataRepresentation::Read(Representation::read(section5, points)?))
 }

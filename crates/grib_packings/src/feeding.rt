@@ -18,7 +18,7 @@ use grib_packing::{Column, Keeper, Points, Simple};
 use std::alloc::{AllocError, Global};
 
 /// Reads the values of a field as the octets of its Section 7 come, in any pieces (WMO-No. 306, Volume I.2,
-/// FM 92 GRIB edition 2, data templates 7.0, 7.2 and 7.3), and hands their points on. All memory is taken
+/// FM 92 GRIB edition 2, data templates 7.0, 7.2, 7.3 and 7.42), and hands their points on. All memory is taken
 /// at the start.
 #[derive(Debug, Drop)]
 pub struct Feeding<K> {
@@ -129,11 +129,16 @@ impl<K: Keeper + Drop> Feeding<K> {
             (λ after. (data_fault s5 s7 ≡ None) × K.kept keeper (entries_of s5 s7) after × (length_of (entries_of s5 s7) ≡ value_count s5))
             (λ fault. located start (data_fault s5 s7) ≡ Some fault) }
     {
-        let Feeding { start, reading, .. } = self;
+        let Feeding {
+            start,
+            length,
+            reading,
+            ..
+        } = self;
         let Some(reading) = reading else {
             unreachable!();
         };
-        reading.end(start)
+        reading.end(start, length)
     }
 }
 
@@ -151,6 +156,7 @@ impl Feeding<Points> {
         start: u64,
         length: u32,
     ) -> Result<Feeder, AllocError>
+        requires few { length_of mask ≤ 33554432 }
         requires accepted { packing_fault section5.now.octets.now (length_of mask) ≡ None }
         requires values { present_count mask ≡ value_count section5.now.octets.now }
         requires low { 1 ≤ start }

@@ -6,6 +6,7 @@
 //! read.
 #![tactic(auto)]
 
+mod coded_reading;
 mod data_representation;
 mod feeding;
 pub mod laws;

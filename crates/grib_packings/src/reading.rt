@@ -8,6 +8,7 @@ ghost use Rattle.grib_complex.specs.Feeding.{AreOctets};
 ghost use Rattle.grib_packings.specs.Field.{Represents};
 ghost use Rattle.grib_packings.specs.Reading.{IsFedReading, IsWholeReading, ReadingAgrees};
 
+use crate::coded_reading::CodedReading;
 use crate::representation::Representation;
 use crate::simple_reading::SimpleReading;
 use grib_base::Fault;
@@ -20,6 +21,7 @@ use std::alloc::{AllocError, Global};
 pub(crate) enum Reading<K> {
     Simple(SimpleReading<K>),
     Complex(ComplexReading<K>),
+    Coded(CodedReading<K>),
 }
 
 impl<K: Keeper + Drop> Reading<K> {
@@ -47,6 +49,7 @@ impl<K: Keeper + Drop> Reading<K> {
                 let reading = ComplexReading::start(alloc, *complex, keeper, start, length)?;
                 Ok(Reading::Complex(reading))
             }
+            Representation::Coded(coded) => Ok(Reading::Coded(CodedReading::start(*coded, keeper))),
         }
     }
 
@@ -69,17 +72,19 @@ impl<K: Keeper + Drop> Reading<K> {
             Reading::Complex(reading) => {
                 Reading::Complex(reading.push(alloc, piece, before, start, length))
             }
+            Reading::Coded(reading) => Reading::Coded(reading.push(piece)),
         }
     }
 
-    /// What has kept the points, once all octets came of a Section 7 that begins at octet `start` of the message.
+    /// What has kept the points, once all octets came of a Section 7 of `length` octets that begins at octet `start` of
+    /// the message.
     ///
     /// # Errors
     ///
     /// Section 7 is refused by the first row of the profile that fails.
-    pub fn end(self, start: u64) -> Result<K, Fault>
-        requires { IsWholeReading K.kept start self }
-        ensures { (s5 : List ℕ) (keeper : _) (s7 : List ℕ) → AreOctets (drop 5 s7) → ReadingAgrees K.kept s5 keeper start (length_of s7) (drop 5 s7) self
+    pub fn end(self, start: u64, length: u32) -> Result<K, Fault>
+        requires { IsWholeReading K.kept start length self }
+        ensures { (s5 : List ℕ) (keeper : _) (s7 : List ℕ) → length_of s7 ≡ length → AreOctets (drop 5 s7) → ReadingAgrees K.kept s5 keeper start (length_of s7) (drop 5 s7) self
             → MatchResult result
             (λ after. (data_fault s5 s7 ≡ None) × K.kept keeper (entries_of s5 s7) after × (length_of (entries_of s5 s7) ≡ value_count s5))
             (λ fault. located start (data_fault s5 s7) ≡ Some fault) }
@@ -87,6 +92,7 @@ impl<K: Keeper + Drop> Reading<K> {
         match self {
             Reading::Simple(reading) => reading.end(),
             Reading::Complex(reading) => reading.end(start),
+            Reading::Coded(reading) => reading.end(start, length),
         }
     }
 }

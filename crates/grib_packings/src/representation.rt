@@ -1,6 +1,6 @@
 //! What Section 5 says of a field, by its packing.
 
-ghost use Rattle.std.specs.Prelude.{◌≡◌, ℕ, List, length, None, Some, MatchResult};
+ghost use Rattle.std.specs.Prelude.{◌≡◌, ℕ, ◌≤◌, List, length, None, Some, MatchResult};
 ghost use Rattle.grib_base.specs.Faults.{AreTried, IsReadFault};
 ghost use Rattle.grib_base.specs.Rows.{located};
 ghost use Rattle.grib_bitmap.specs.Mask.{present_count};
@@ -13,6 +13,7 @@ ghost use Rattle.grib_packings.specs.Field.{Represents};
 use crate::feeding::Feeding;
 use grib_base::{Fault, ReadFault, Section};
 use grib_bitmap::Mask;
+use grib_ccsds::{Coded, coded_of};
 use grib_complex::{Complex, complex_of};
 use grib_packing::{Column, Keeper, Nothing, Points, Simple, read_simple};
 use grib_simple::unpack_simple;
@@ -26,31 +27,35 @@ pub enum Representation {
     Simple(Simple),
     /// Complex packing, without or with spatial differencing: templates 5.2 and 5.3.
     Complex(Complex),
+    /// CCSDS packing: template 5.42.
+    Coded(Coded),
 }
 
 impl Representation {
-    /// Reads a Section 5, where the grid has this many points.
+    /// Reads a Section 5, where the grid has this many points, at most 33,554,432.
     ///
     /// # Errors
     ///
     /// The refusal of the first row of the profile that fails.
     pub fn read(section5: &Section<'_>, points: u32) -> Result<Representation, Fault>
+        requires { points ≤ 33554432 }
         ensures { MatchResult result
             (λ value. (packing_fault section5.now.octets.now points ≡ None)
             × Represents value section5.now.octets.now)
             (λ fault. located section5.now.start (packing_fault section5.now.octets.now points) ≡ Some fault) }
     {
         let simple = read_simple(section5, points)?;
-        if simple.template == 0 {
-            return Ok(Representation::Simple(simple));
+        match simple.template {
+            0 => Ok(Representation::Simple(simple)),
+            42 => Ok(Representation::Coded(coded_of(simple, section5)?)),
+            _ => Ok(Representation::Complex(complex_of(simple, section5)?)),
         }
-        let complex = complex_of(simple, section5)?;
-        Ok(Representation::Complex(complex))
     }
 
     /// What a Section 5 says that is accepted for a grid of this many points.
     pub(crate) fn accepted(section5: &Section<'_>, points: u32) -> Representation
-        requires { packing_fault section5.now.octets.now points ≡ None }
+        requires few { points ≤ 33554432 }
+        requires accepted { packing_fault section5.now.octets.now points ≡ None }
         ensures { Represents result section5.now.octets.now }
     {
         let Ok(representation) = Representation::read(section5, points) else {
@@ -66,6 +71,7 @@ impl Representation {
         match self {
             Representation::Simple(simple) => *simple,
             Representation::Complex(complex) => complex.simple,
+            Representation::Coded(coded) => coded.simple,
         }
     }
 

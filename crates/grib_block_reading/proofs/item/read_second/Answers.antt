@@ -8,4 +8,4 @@ taken n m xs within is = length-take-le n xs within ∙ is
 
 pub returns : goal.returns
 returns c other =
-    second_read c.args.coding c.args.with_reference other _ _ _ _ _ _ _ _ c.in_ok-reference.ensures.found c.in_ok-reference.ensures.within (taken _ _ _ (omega (arith, c.from.ensures)) c.from.ensures) c.in_ok-read_sequences.ensures.found c.spread-kind.ensures
+    second_read c.args.coding c.args.with_reference other _ _ _ _ _ _ _ _ c.in_ok-reference.ensures.found c.in_ok-reference.ensures.within (taken _ _ _ (omega (arith, c.from.ensures)) c.from.ensures) c.in_ok-read_sequences.ensures.found c.spread_second-kind.ensures

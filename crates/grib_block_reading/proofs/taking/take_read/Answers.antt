@@ -39,9 +39,13 @@ returns-in-Codes g c item kind =
     let values : c.values_shown-values.result ≡ min (coding.block * 1) (c.args.count - block * coding.block) - skip =
     subst (λ (n : ℕ). c.values_shown-values.result ≡ min (coding.block * n) (c.args.count - block * coding.block) - skip) one
     (values_are coding block c.args.head.reference _ _ c.requires.reference c.values_shown-values.ensures) in
-    MatchResult-weaker c.take_codes.result c.take_codes.ensures
-    (λ taken p. subst (λ (n : ℕ). ItemPassed g.K.Keeper.kept coding c.args.count block (coded_of c.args.head.reference item) c.args.kept.last c.args.kept.keeper n taken.kept.last taken.kept.keeper) (sym p.0)
-    (codes_passed g.K.Keeper.kept coding c.args.count block c.args.head.reference item 1 c.values_shown-values.result codes c.args.kept.last c.args.kept.keeper taken.kept.last taken.kept.keeper
+    let after = c.take_codes.result.kept in
+    MatchResult-weaker c.take_codes.result.blocks c.take_codes.ensures
+    (λ taken p. subst (λ (n : ℕ). ItemPassed g.K.Keeper.kept coding c.args.count block (coded_of c.args.head.reference item) c.args.kept.last c.args.kept.keeper n after.last after.keeper) (sym p.0)
+    (codes_passed g.K.Keeper.kept coding c.args.count block c.args.head.reference item 1 c.values_shown-values.result codes c.args.kept.last c.args.kept.keeper after.last after.keeper
     some (some_block coding c.requires.fits) c.requires.some c.requires.reference is c.requires.room refl inside values p.1 p.2))
-    (λ fault q. codes_fault coding c.args.count block c.args.head.reference item 1 c.values_shown-values.result q.0 codes c.requires.some c.requires.reference is c.requires.room refl inside values q.1
-    ∙ ap Some (sym q.2))
+    (λ fault q. (
+      codes_fault coding c.args.count block c.args.head.reference item 1 c.values_shown-values.result q.0 codes c.requires.some c.requires.reference is c.requires.room refl inside values q.1
+          ∙ ap Some (sym q.2),
+      q.3,
+    ))

@@ -1,4 +1,4 @@
-use Rattle.std.proofs.Common.{◌≡◌, ℕ, Option, Some, None, MatchResult, length, drop, sym, arith, subst}
+use Rattle.std.proofs.Common.{◌≡◌, ℕ, Option, Some, None, MatchResult, length, drop, sym, arith, subst, subst₂}
 use Rattle.grib_base.specs.Rows.{located}
 use Rattle.grib_packing.specs.Entries.{data_fault, entries_of}
 use Rattle.grib_packing.specs.Packing.{value_count}
@@ -14,12 +14,11 @@ end-requires g c =
     record {
       s5 = fed.s5;
       keeper = fed.keeper;
-      l = fed.l;
       octets = fed.octets;
       low = omega (arith, read.low, read.start_is);
       high = omega (arith, read.high, read.start_is);
       whole = omega (arith, read.within, read.pushed, read.length_is, c.requires.all);
-      agrees = subst (λ (n : ℕ). HasReading g.K.Keeper.kept fed.s5 fed.keeper n fed.l fed.octets (Some c.in-Some.reading)) (sym read.start_is) here;
+      agrees = subst₂ (λ (n l : ℕ). HasReading g.K.Keeper.kept fed.s5 fed.keeper n l fed.octets (Some c.in-Some.reading)) (sym read.start_is) (sym read.length_is) here;
     }
 
 pub returns : goal.returns
@@ -28,4 +27,4 @@ returns g c = λ s5 keeper start s7 read.
     let agrees = subst (λ (n : ℕ). HasReading g.K.Keeper.kept s5 keeper n (length s7) (drop 5 s7) (Some c.in-Some.reading)) (sym read.start_is) here in
     subst (λ (n : ℕ). MatchResult c.end.result
     (λ after. (data_fault s5 s7 ≡ None) × g.K.Keeper.kept keeper (entries_of s5 s7) after × (length (entries_of s5 s7) ≡ value_count s5))
-    (λ fault. located n (data_fault s5 s7) ≡ Some fault)) read.start_is (c.end.ensures s5 keeper s7 read.known agrees)
+    (λ fault. located n (data_fault s5 s7) ≡ Some fault)) read.start_is (c.end.ensures s5 keeper s7 (sym read.length_is) read.known agrees)

@@ -10,13 +10,13 @@ end-requires g c =
       s5 = whole.s5;
       keeper = whole.keeper;
       start = c.args.start;
-      l = whole.l;
+      l = c.args.length;
       octets = whole.octets;
-      agrees = subst (λ (r : Reading _). ReadingAgrees g.K.Keeper.kept whole.s5 whole.keeper c.args.start whole.l whole.octets r) c.in-Simple.is whole.agrees;
+      agrees = subst (λ (r : Reading _). ReadingAgrees g.K.Keeper.kept whole.s5 whole.keeper c.args.start c.args.length whole.octets r) c.in-Simple.is whole.agrees;
     }
 
 pub returns-in-Simple : goal.returns-in-Simple
-returns-in-Simple g c = λ s5 keeper s7 known agrees.
+returns-in-Simple g c = λ s5 keeper s7 long known agrees.
     c.end.ensures s5 keeper c.args.start s7 known (subst (λ (r : Reading _). ReadingAgrees g.K.Keeper.kept s5 keeper c.args.start (length s7) (drop 5 s7) r) c.in-Simple.is agrees)
 
 pub end-requires-in-Complex : goal.end-requires-in-Complex
@@ -25,14 +25,28 @@ end-requires-in-Complex g c =
     record {
       s5 = whole.s5;
       keeper = whole.keeper;
-      l = whole.l;
+      l = c.args.length;
       octets = whole.octets;
       low = whole.low;
       high = whole.high;
       whole = whole.whole;
-      agrees = subst (λ (r : Reading _). ReadingAgrees g.K.Keeper.kept whole.s5 whole.keeper c.args.start whole.l whole.octets r) c.in-Complex.is whole.agrees;
+      agrees = subst (λ (r : Reading _). ReadingAgrees g.K.Keeper.kept whole.s5 whole.keeper c.args.start c.args.length whole.octets r) c.in-Complex.is whole.agrees;
     }
 
 pub returns-in-Complex : goal.returns-in-Complex
-returns-in-Complex g c = λ s5 keeper s7 known agrees.
+returns-in-Complex g c = λ s5 keeper s7 long known agrees.
     c.end-in-Complex.ensures s5 keeper s7 known (subst (λ (r : Reading _). ReadingAgrees g.K.Keeper.kept s5 keeper c.args.start (length s7) (drop 5 s7) r) c.in-Complex.is agrees)
+
+pub end-requires-in-Coded : goal.end-requires-in-Coded
+end-requires-in-Coded g c =
+    let whole = c.requires in
+    record {
+      s5 = whole.s5;
+      keeper = whole.keeper;
+      octets = whole.octets;
+      agrees = subst (λ (r : Reading _). ReadingAgrees g.K.Keeper.kept whole.s5 whole.keeper c.args.start c.args.length whole.octets r) c.in-Coded.is whole.agrees;
+    }
+
+pub returns-in-Coded : goal.returns-in-Coded
+returns-in-Coded g c = λ s5 keeper s7 long known agrees.
+    c.end-in-Coded.ensures s5 keeper s7 long (subst (λ (r : Reading _). ReadingAgrees g.K.Keeper.kept s5 keeper c.args.start (length s7) (drop 5 s7) r) c.in-Coded.is agrees)

@@ -36,3 +36,17 @@ push-requires-in-Complex-clause-fed g c =
 pub returns-in-Complex : goal.returns-in-Complex
 returns-in-Complex g c = λ s5 keeper octets long known agrees.
     c.push-in-Complex.ensures s5 keeper octets long known (subst (λ (r : Reading _). ReadingAgrees g.K.Keeper.kept s5 keeper c.args.start c.args.length octets r) c.in-Complex.is agrees)
+
+pub push-requires-in-Coded-clause-fed : goal.push-requires-in-Coded-clause-fed
+push-requires-in-Coded-clause-fed g c =
+    let fed = c.requires.fed in
+    record {
+      s5 = fed.s5;
+      keeper = fed.keeper;
+      octets = fed.octets;
+      agrees = subst (λ (r : Reading _). ReadingAgrees g.K.Keeper.kept fed.s5 fed.keeper c.args.start c.args.length fed.octets r) c.in-Coded.is fed.agrees;
+    }
+
+pub returns-in-Coded : goal.returns-in-Coded
+returns-in-Coded g c = λ s5 keeper octets long known agrees.
+    c.push-in-Coded.ensures s5 keeper octets (subst (λ (r : Reading _). ReadingAgrees g.K.Keeper.kept s5 keeper c.args.start c.args.length octets r) c.in-Coded.is agrees)

@@ -22,3 +22,11 @@ pub returns-in_ok-reading-in-Complex : goal.returns-in_ok-reading-in-Complex
 returns-in_ok-reading-in-Complex g c = λ s5 read.
     let here = subst (λ r. Represents r s5) c.in-Complex.is read in
     c.in_ok-reading-in-Complex.ensures s5 here.numbers.1
+
+pub start-requires-in-Coded : goal.start-requires-in-Coded
+start-requires-in-Coded g c =
+    let given = c.requires.read in
+    (given.0, subst (λ r. Represents r given.0) c.in-Coded.is given.1)
+
+pub returns-in-Coded : goal.returns-in-Coded
+returns-in-Coded g c = λ s5 read. c.start-in-Coded.ensures s5 (subst (λ r. Represents r s5) c.in-Coded.is read)

@@ -2,7 +2,7 @@ use Rattle.std.proofs.Common.{Bool, List, [], length, drop, sym, ◌∙◌, subs
 use Rattle.grib_base.proofs.Passing.{refused}
 use Rattle.grib_packings.specs.Field.{Represents}
 use Rattle.grib_packing.specs.Kept.{ArePoints}
-use Rattle.grib_packings.proofs.Represented.{simple_width}
+use Rattle.grib_packings.proofs.Represented.{simple_width, values_alike}
 use Rattle.grib_packings.proofs.Read.{column_agrees}
 use Rattle.grib_packings.proofs.representation.Representation.unpack.Goals as goal
 
@@ -25,16 +25,12 @@ pub returns : goal.returns
 returns c = λ s5 read.
     let s7 = c.args.section7.now.octets.now in
     let mask = c.args.mask.now in
-    let here = subst (λ r. Represents r s5) c.in_default.is read in
-    let there = subst (λ r. Represents r c.requires.0) c.in_default.is c.requires.1 in
-    let counted = c.requires.2 ∙ sym there.numbers.1.simple.values ∙ here.numbers.1.simple.values in
+    let counted = c.requires.2 ∙ values_alike c.args.self.now c.requires.0 s5 c.requires.1 read in
     c.in_ok-finish.ensures s5 mask c.args.section7.now.start s7 (column_agrees s5 mask c.args.section7.now.start (length s7) (drop 5 s7) c.in_ok-points.points (subst (λ (m : List Bool). ArePoints m [] c.in_ok-points.points) c.in_ok-copy.ensures c.in_ok-points.ensures) counted c.in_ok-whole.field-0 (c.in_ok-whole.ensures.read s5 read))
 
 pub returns-in_err-finish : goal.returns-in_err-finish
 returns-in_err-finish c = λ s5 read.
     let s7 = c.args.section7.now.octets.now in
     let mask = c.args.mask.now in
-    let here = subst (λ r. Represents r s5) c.in_default.is read in
-    let there = subst (λ r. Represents r c.requires.0) c.in_default.is c.requires.1 in
-    let counted = c.requires.2 ∙ sym there.numbers.1.simple.values ∙ here.numbers.1.simple.values in
+    let counted = c.requires.2 ∙ values_alike c.args.self.now c.requires.0 s5 c.requires.1 read in
     refused _ _ _ _ c.from_residual-in_err-finish.ensures.1 (c.in_err-finish.ensures s5 mask c.args.section7.now.start s7 (column_agrees s5 mask c.args.section7.now.start (length s7) (drop 5 s7) c.in_ok-points.points (subst (λ (m : List Bool). ArePoints m [] c.in_ok-points.points) c.in_ok-copy.ensures c.in_ok-points.ensures) counted c.in_ok-whole.field-0 (c.in_ok-whole.ensures.read s5 read)))

@@ -1,0 +1,3 @@
+pub mod Pending
+pub mod Half
+pub mod Feeding

@@ -1,0 +1,7 @@
+pub mod Accepting
+pub mod Taken
+pub mod Bounded
+mod Collected
+mod Sizes
+pub mod ToCode
+pub mod Back

@@ -1,0 +1,4 @@
+pub mod Representation
+pub mod Numbers
+pub mod Blocks
+pub mod Fewer
