@@ -17,7 +17,10 @@ use Rattle.grib_packing.specs.Packing.{packing_template, template_reason, value_
 use Rattle.grib_packing.specs.Complex.{complex_rows, layout_of, descriptor_octets}
 use Rattle.grib_packing.specs.Groups.{list_rows}
 use Rattle.grib_packing.specs.Simple.{simple_rows}
-use Rattle.grib_packing.specs.Entries.{own_packing, packing_rows, packing_fault, is_opaque_packing, opaque_packing_rows, packing_fault_under, data_fault, complex_data_fault, group_data_fault, group_data_rows, range_rows, has_no_groups}
+use Rattle.grib_packing.specs.Entries.{own_packing, packing_rows, packing_fault, is_opaque_packing, opaque_packing_rows, is_stated_packing, unstated_rows, packing_fault_under, data_fault, complex_data_fault, group_data_fault, group_data_rows, range_rows, has_no_groups}
+use Rattle.grib_coding.specs.declared.fault.BlockFault.{BlockFault}
+use Rattle.grib_coding.specs.declared.fault.BlockFault.TheVariants.{Short, Block, Value}
+use Rattle.grib_packing.specs.Coded.{block_refusal, coded_data_fault, decoded_of, is_coded}
 use Rattle.grib_packing.proofs.Packings.{each_packing}
 use Rattle.grib2_message.specs.View.{octets_in_force, points_in_force, earlier_mask, section_count}
 use Rattle.grib2_message.specs.Acceptance.{section_fault_under, contents_faults, no_rows}
@@ -99,10 +102,12 @@ packing_other : (s : List ℕ) (points : ℕ) → IsOther (packing_fault s point
 packing_other s points =
     then_other (first_fault (packing_rows s points)) (λ _. (own_packing s).rows s)
     (rows_other (packing_rows s points) (λ e. cc, (template_other (packing_template s), (λ e. cc, (λ e. cc, (λ e. cc, (λ e. cc, tt)))))))
-    (each_packing (λ p. AllOther (p.rows s)) (packing_template s) tt (complex_other s) (complex_other s) tt)
+    (each_packing (λ p. AllOther (p.rows s)) (packing_template s) tt (complex_other s) (complex_other s) (λ e. cc, (λ e. cc, (λ e. cc, tt))) tt)
 
 packing_other_under : (profile : Profile) (s : List ℕ) (points : ℕ) → IsOther (packing_fault_under profile s points)
-packing_other_under Stated s points = packing_other s points
+packing_other_under Stated s points =
+    choose_other (is_stated_packing s) (λ _. packing_fault s points) (λ _. first_fault (unstated_rows s)) (packing_other s points)
+    (rows_other (unstated_rows s) (λ e. cc, (template_other (packing_template s), tt)))
 packing_other_under Open s points =
     choose_other (is_opaque_packing s) (λ _. first_fault (opaque_packing_rows s points)) (λ _. packing_fault s points)
     (rows_other (opaque_packing_rows s points) (λ e. cc, (λ e. cc, tt))) (packing_other s points)
@@ -114,10 +119,17 @@ group_other s5 s7 =
     (then_other (first_fault lists) (λ _. group_data_rows s5 s7) (rows_other lists (λ e. cc, tt)) (λ e. cc, (λ e. cc, (λ e. cc, (λ e. cc, (λ e. cc, tt))))))
     (λ e. cc, tt)
 
+refusal_other : (l : ℕ) (fault : Option BlockFault) → IsOther (block_refusal l fault)
+refusal_other l None = tt
+refusal_other l (Some Short) = λ e. cc
+refusal_other l (Some (Block block)) = λ e. cc
+refusal_other l (Some (Value value)) = λ e. cc
+
 pub data_other : (s5 s7 : List ℕ) → IsOther (data_fault s5 s7)
 data_other s5 s7 =
     let complex : IsOther (complex_data_fault s5 s7) = choose_other (has_no_groups s5) (λ _. None) (λ _. group_data_fault s5 s7) tt (group_other s5 s7) in
-    each_packing (λ p. IsOther (p.fault s5 s7)) (packing_template s5) (rows_other (simple_rows s5 (length s7)) (λ e. cc, tt)) complex complex tt
+    let coded : IsOther (coded_data_fault s5 s7) = choose_other (is_coded s5) (λ _. block_refusal (length s7) (decoded_of s5 s7).fault) (λ _. None) (refusal_other (length s7) (decoded_of s5 s7).fault) tt in
+    each_packing (λ p. IsOther (p.fault s5 s7)) (packing_template s5) (rows_other (simple_rows s5 (length s7)) (λ e. cc, tt)) complex complex coded tt
 
 by_number : (profile : Profile) (n : ℕ) (before : List Placed) (s : Placed) → IsOther (get_or (contents_faults profile) n no_rows before s)
 by_number profile zero before s = tt

@@ -11,8 +11,8 @@ use Rattle.grib2_grids.specs.Grid.{grid_points, grid_rows}
 use Rattle.grib2_grids.proofs.Under.{same_grid_rows, grid_accepted}
 use Rattle.grib2_products.specs.Product.{product_rows}
 use Rattle.grib2_products.proofs.Under.{same_product_rows, product_accepted}
-use Rattle.grib_packing.specs.Entries.{packing_fault}
-use Rattle.grib_packing.proofs.OpaquePackings.{known_under, accepted_under, accepted_known}
+use Rattle.grib_packing.specs.Entries.{packing_fault_under}
+use Rattle.grib_packing.proofs.OpaquePackings.{accepted_known, opened_under, read_under, stated_accepts, stated_under}
 use Rattle.grib2_message.specs.View.{points_in_force, section_count}
 use Rattle.grib2_message.specs.Acceptance.{contents_faults, no_rows, section_fault_under, verdict_from, verdict_under}
 use Rattle.grib2_message.specs.Fields.{sections_from, sections_of, part_octets}
@@ -36,7 +36,7 @@ module _ (profile : Profile) where
       ap (located s.start) (product_accepted profile s.octets n (none_located s.start (first_fault (product_rows s.octets n)) none))
   by_number (suc (suc (suc (suc (suc zero))))) before s none =
       let points = points_in_force before in
-      ap (located s.start) (accepted_under profile s.octets points (none_located s.start (packing_fault s.octets points) none))
+      ap (located s.start) (opened_under profile s.octets points (none_located s.start (packing_fault_under Stated s.octets points) none))
   by_number (suc (suc (suc (suc (suc (suc zero)))))) before s none = none
   by_number (suc (suc (suc (suc (suc (suc (suc zero))))))) before s none = none
   by_number (suc (suc (suc (suc (suc (suc (suc (suc n)))))))) before s none = none
@@ -79,7 +79,8 @@ module _ (profile : Profile) where
   closed_number (suc (suc (suc (suc zero)))) before s e h none =
       ap (λ (rows : List Row). first_fault_at s.start rows) (sym (same_product_rows profile s.octets (section_count 4 before + 1) (h.product e))) ∙ none
   closed_number (suc (suc (suc (suc (suc zero))))) before s e h none =
-      ap (located s.start) (sym (known_under profile s.octets (points_in_force before) (h.packing e))) ∙ none
+      let points = points_in_force before in
+      ap (located s.start) (stated_under Stated s.octets points (h.packing e) ∙ sym (stated_under profile s.octets points (h.packing e))) ∙ none
   closed_number (suc (suc (suc (suc (suc (suc zero)))))) before s e h none = none
   closed_number (suc (suc (suc (suc (suc (suc (suc zero))))))) before s e h none = none
   closed_number (suc (suc (suc (suc (suc (suc (suc (suc n)))))))) before s e h none = none
@@ -120,7 +121,7 @@ field_opened Stated m i h = record {
   identification = h.identification;
   grid = grid_accepted Open (part_octets m i 3) h.grid;
   product = product_accepted Open (part_octets m i 4) 1 h.product;
-  packing = accepted_under Open (part_octets m i 5) (grid_points (part_octets m i 3)) h.packing;
+  packing = opened_under Open (part_octets m i 5) (grid_points (part_octets m i 3)) h.packing;
   values = h.values;
 }
 
@@ -129,16 +130,19 @@ pub any_message : (profile : Profile) (m : List ℕ) → IsMessageUnder profile 
 any_message Open m h = h
 any_message Stated m h = message_opened Open m h
 
--- the packing of a field is a stated one
+-- the values of a field can be read
 pub field_read : (profile : Profile) (m : List ℕ) (i : ℕ) → FieldPassesUnder profile m i → HasValues m i → FieldReadsUnder profile m i
 field_read profile m i h read = record {
   identification = h.identification;
   grid = h.grid;
   product = h.product;
-  packing = sym (known_under profile (part_octets m i 5) (grid_points (part_octets m i 3)) read) ∙ h.packing;
+  packing = read_under profile (part_octets m i 5) (grid_points (part_octets m i 3)) read h.packing;
   values = h.values;
 }
 
 -- each packing that the profile of the stated templates accepts is one
 pub stated_read : (m : List ℕ) (i : ℕ) → FieldPassesUnder Stated m i → HasValues m i
-stated_read m i h = accepted_known (part_octets m i 5) (grid_points (part_octets m i 3)) h.packing
+stated_read m i h =
+    let s5 = part_octets m i 5 in
+    let points = grid_points (part_octets m i 3) in
+    accepted_known s5 points (stated_accepts s5 points h.packing).1

@@ -18,7 +18,7 @@ use Rattle.grib2_message.specs.Acceptance.{verdict_under}
 use Rattle.grib2_message.specs.Grammar.{GrammarUnder}
 use Rattle.grib2_message.specs.Fields.{sections_of, field_count, field_sections, sections_up_to_field, part_octets, column_of}
 use Rattle.grib2_message.specs.Message.{IsMessageUnder}
-use Rattle.grib2_message.specs.Assembled.{assembled, assembled_with, assembled_body_with, replaced_with, as_it_is, IsGridUnder, PartsPass, MayBeAssembledUnder, MayBeAssembledWithUnder}
+use Rattle.grib2_message.specs.Assembled.{assembled, assembled_with, assembled_body_with, replaced_with, as_it_is, IsGridUnder, PartsPassUnder, MayBeAssembledUnder, MayBeAssembledWithUnder}
 use Rattle.grib2_message.proofs.Along.{Along, count_along, up_to_along, octets_along}
 use Rattle.grib2_message.proofs.Holding.{field_ends}
 use Rattle.grib2_message.proofs.Parted.{Parted, message_parted, message_least, IsHead, joined_grammar}
@@ -80,8 +80,8 @@ module _ (profile : Profile) (grid : List ℕ → List ℕ) (m : List ℕ) (part
       subst (λ (xs : List Placed). Rebuilt profile grid parts [] 17 17 p.sections (replaced_with grid xs parts)) (sym p.found)
       (rebuilt profile grid p.sections parts [] [] 17 17 p.follow tt (outside parts [] (λ low high. absurd (omega arith))) (sound_none profile) each
       (λ i part e.
-      subst (λ (xs : List Placed). PartsPass (grid_points (grid (octets_in_force 3 (sections_up_to_field (suc i) [] xs)))) part) p.found
-      (subst (λ (n : ℕ). PartsPass (grid_points (grid (part_octets m n 3))) part) (add-one i) (h.pass i part e)))
+      subst (λ (xs : List Placed). PartsPassUnder profile (grid_points (grid (octets_in_force 3 (sections_up_to_field (suc i) [] xs)))) part) p.found
+      (subst (λ (n : ℕ). PartsPassUnder profile (grid_points (grid (part_octets m n 3))) part) (add-one i) (h.pass i part e)))
       (h.one_each ∙ ap (count_by (is_numbered 7)) p.found))
 
   grammar : GrammarUnder profile (assembled_with grid m parts) news

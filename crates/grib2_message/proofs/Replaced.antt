@@ -17,12 +17,11 @@ use Rattle.grib_bitmap.specs.Mask.{bitmap_indicator, bitmap_rows, mask_of}
 use Rattle.grib_packing.specs.Packing.{value_count}
 use Rattle.grib_packing.specs.Entries.{packing_fault_under, data_fault}
 use Rattle.grib_packing.specs.declared.written.Packed.{Packed}
-use Rattle.grib_packing.proofs.OpaquePackings.{accepted_under}
 use Rattle.grib2_message.specs.View.{is_numbered, last_number, octets_in_force, points_in_force, earlier_mask, mask_in_force, section_count}
 use Rattle.grib2_message.specs.Acceptance.{section_fault_under, contents_faults, no_rows}
 use Rattle.grib2_message.specs.Fields.{sections_up_to_field}
 use Rattle.grib2_message.specs.Grammar.{IsSection, AreSections}
-use Rattle.grib2_message.specs.Assembled.{in_place_with, replaced_with, IsGridUnder, PartsPass}
+use Rattle.grib2_message.specs.Assembled.{in_place_with, replaced_with, IsGridUnder, PartsPassUnder}
 use Rattle.grib2_message.specs.Kept.{AreSound}
 use Rattle.grib2_message.proofs.Along.{Along, MayReplace, replaces, last_along, count_along, octets_along}
 use Rattle.grib2_message.proofs.Bitmaps.{mask_alone}
@@ -196,12 +195,12 @@ record Goes (profile : Profile) (grid : List ℕ → List ℕ) (part : Packed) (
   ends : section_number s ≡ 7 → HasPart part (placed_at p t ∷ others)
 
 -- the indicator of the bitmap of a part is not 254
-not_repeated : (part : Packed) (points : ℕ) → PartsPass points part → bitmap_indicator part.section6 ≢ 254
-not_repeated part points pass e = elim pass.alone [ inl own ↦ absurd (omega arith) | inr all ↦ absurd (omega arith) ]
+not_repeated : (profile : Profile) (part : Packed) (points : ℕ) → PartsPassUnder profile points part → bitmap_indicator part.section6 ≢ 254
+not_repeated profile part points pass e = elim pass.alone [ inl own ↦ absurd (omega arith) | inr all ↦ absurd (omega arith) ]
 
 module _ (profile : Profile) (grid : List ℕ → List ℕ) (part : Packed) (before others : List Placed) (q p : ℕ) (s : List ℕ) (is : IsSection profile before q s) (along : Along (Fits grid) before others)
     (in_part : InPart part others) (sound : AreSound profile before) (becomes : section_number s ≡ 3 → IsGridUnder profile s → IsGridUnder profile (grid s))
-    (pass : 4 ≤ last_number before → last_number before ≤ 6 → PartsPass (grid_points (grid (octets_in_force 3 before))) part) where
+    (pass : 4 ≤ last_number before → last_number before ≤ 6 → PartsPassUnder profile (grid_points (grid (octets_in_force 3 before))) part) where
   follows : Follows (last_number before) (section_number s)
   follows = follows_tells (last_number before) (section_number s) is.follows
 
@@ -259,7 +258,7 @@ module _ (profile : Profile) (grid : List ℕ → List ℕ) (part : Packed) (bef
       let t = placed_at p part.section5 in
       let number : section_number part.section5 ≡ 5 = ok.itself_5.number_stands in
       let none : located p (packing_fault_under profile part.section5 (points_in_force others)) ≡ None =
-      ap (λ (n : ℕ). located p (packing_fault_under profile part.section5 n)) (points_new profile grid before others along sound (omega arith)) ∙ ap (located p) (accepted_under profile part.section5 _ ok.packing) in
+      ap (λ (n : ℕ). located p (packing_fault_under profile part.section5 n)) (points_new profile grid before others along sound (omega arith)) ∙ ap (located p) ok.packing in
       record {
         may = may_replace profile others p s part.section5 5 e ok.itself_5 (fault_of profile others t 5 number ∙ none);
         fits = record { numbered = number ∙ sym e; kept = λ low other. absurd (omega arith); grid_is = λ three. absurd (omega arith) };
@@ -291,7 +290,7 @@ module _ (profile : Profile) (grid : List ℕ → List ℕ) (part : Packed) (bef
           bitmap = λ six. octets_same t others 6 number;
           mask = λ six.
               mask_here t others number
-              ∙ mask_alone part.section6 (points_in_force others) 0 (not_repeated part (grid_points (grid (octets_in_force 3 before))) ok) (earlier_mask others) None
+              ∙ mask_alone part.section6 (points_in_force others) 0 (not_repeated profile part (grid_points (grid (octets_in_force 3 before))) ok) (earlier_mask others) None
               ∙ ap (λ (n : ℕ). mask_of part.section6 n None) (sym (points_kept t others (other_than 3 (λ same. absurd (omega arith)))));
         };
         ends = λ seven. absurd (omega arith);
@@ -422,10 +421,10 @@ each_grid profile P (s ∷ sections) before q follow h =
     )
 
 -- the parts pass for the fields that are left
-abbrev pub Pass : (List ℕ → List ℕ) → List Packed → List Placed → ℕ → List (List ℕ) → Type 0
-Pass grid parts before q sections =
+abbrev pub Pass : Profile → (List ℕ → List ℕ) → List Packed → List Placed → ℕ → List (List ℕ) → Type 0
+Pass profile grid parts before q sections =
     (i : ℕ) (part : Packed) → slice_get parts i ≡ Some part
-    → PartsPass (grid_points (grid (octets_in_force 3 (sections_up_to_field (suc i) before (placed_from q sections))))) part
+    → PartsPassUnder profile (grid_points (grid (octets_in_force 3 (sections_up_to_field (suc i) before (placed_from q sections))))) part
 
 -- each part is that of its field
 abbrev pub Columns : List Packed → List Placed → List Placed → Type 0
@@ -469,18 +468,18 @@ module _ (profile : Profile) (grid : List ℕ → List ℕ) (part : Packed) (par
 -- the parts pass for the fields after a section
 
 module _ (profile : Profile) (grid : List ℕ → List ℕ) (part : Packed) (parts : List Packed) (before : List Placed) (q : ℕ) (s : List ℕ) (sections : List (List ℕ))
-    (pass : Pass grid (part ∷ parts) before q (s ∷ sections)) where
-  pass_here : AreSections profile before q (s ∷ sections) → 4 ≤ last_number before → last_number before ≤ 6 → PartsPass (grid_points (grid (octets_in_force 3 before))) part
+    (pass : Pass profile grid (part ∷ parts) before q (s ∷ sections)) where
+  pass_here : AreSections profile before q (s ∷ sections) → 4 ≤ last_number before → last_number before ≤ 6 → PartsPassUnder profile (grid_points (grid (octets_in_force 3 before))) part
   pass_here follow low high =
-      subst (λ (xs : List ℕ). PartsPass (grid_points (grid xs)) part) (grid_ahead profile (s ∷ sections) before q follow (omega (arith, low)) high) (pass 0 part refl)
+      subst (λ (xs : List ℕ). PartsPassUnder profile (grid_points (grid xs)) part) (grid_ahead profile (s ∷ sections) before q follow (omega (arith, low)) high) (pass 0 part refl)
 
-  pass_7 : section_number s ≡ 7 → Pass grid parts (placed_at q s ∷ before) (q + length s) sections
+  pass_7 : section_number s ≡ 7 → Pass profile grid parts (placed_at q s ∷ before) (q + length s) sections
   pass_7 seven i x e =
-      subst (λ (xs : List Placed). PartsPass (grid_points (grid (octets_in_force 3 xs))) x) (up_more (placed_at q s) before (placed_from (q + length s) sections) i seven) (pass (suc i) x e)
+      subst (λ (xs : List Placed). PartsPassUnder profile (grid_points (grid (octets_in_force 3 xs))) x) (up_more (placed_at q s) before (placed_from (q + length s) sections) i seven) (pass (suc i) x e)
 
-  pass_other : section_number s ≢ 7 → Pass grid (part ∷ parts) (placed_at q s ∷ before) (q + length s) sections
+  pass_other : section_number s ≢ 7 → Pass profile grid (part ∷ parts) (placed_at q s ∷ before) (q + length s) sections
   pass_other other i x e =
-      subst (λ (xs : List Placed). PartsPass (grid_points (grid (octets_in_force 3 xs))) x) (up_other (placed_at q s) before (placed_from (q + length s) sections) i other) (pass i x e)
+      subst (λ (xs : List Placed). PartsPassUnder profile (grid_points (grid (octets_in_force 3 xs))) x) (up_other (placed_at q s) before (placed_from (q + length s) sections) i other) (pass i x e)
 
 -- where the section ends its field, the next part comes
 abbrev with_rest : (List ℕ → List ℕ) → Packed → List Packed → List ℕ → List Placed → Bool → List (List ℕ)
@@ -489,7 +488,7 @@ with_rest grid part parts s rest ends = in_place_with grid (part ∷ parts) s �
 -- as many parts as fields that are left
 pub rebuilt : (profile : Profile) (grid : List ℕ → List ℕ) (sections : List (List ℕ)) (parts : List Packed) (before others : List Placed) (q p : ℕ) → AreSections profile before q sections
     → Along (Fits grid) before others → InParts parts others → AreSound profile before → EachGrid (λ s. IsGridUnder profile s → IsGridUnder profile (grid s)) (placed_from q sections)
-    → Pass grid parts before q sections → length parts ≡ left q sections
+    → Pass profile grid parts before q sections → length parts ≡ left q sections
     → Rebuilt profile grid parts others q p sections (replaced_with grid (placed_from q sections) parts)
 rebuilt profile grid [] parts before others q p follow along in_parts sound each pass count = record {
   follow = ap may_end (last_along (Fits grid) (fits_number grid) before others along) ∙ follow;

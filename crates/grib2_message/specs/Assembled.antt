@@ -13,7 +13,7 @@ use Rattle.grib2_grids.specs.Grid.{grid_points}
 use Rattle.grib2_grids.specs.Opaque.{grid_rows_under}
 use Rattle.grib_bitmap.specs.Mask.{bitmap_indicator, bitmap_rows}
 use Rattle.grib_packing.specs.Packing.{value_count}
-use Rattle.grib_packing.specs.Entries.{packing_fault, data_fault}
+use Rattle.grib_packing.specs.Entries.{packing_fault_under, data_fault}
 use Rattle.grib_packing.specs.declared.written.Packed.{Packed}
 use Rattle.grib2_message.specs.View.{is_numbered}
 use Rattle.grib2_message.specs.Fields.{sections_of, field_count, part_octets}
@@ -75,12 +75,12 @@ IsAssembleFault total (TooLong n) = (n ≡ total) × (268435456 < n)
 IsAssembleFault total Memory = Unit {0}
 
 -- Sections 5, 6 and 7 of a field with this many grid points, each with its length and its number, which no
--- row refuses, whatever bitmap came before: its own is new, or there is none.
-pub record PartsPass (points : ℕ) (part : Packed) : Type 0 where
+-- row of a profile refuses, whatever bitmap came before: its own is new, or there is none.
+pub record PartsPassUnder (profile : Profile) (points : ℕ) (part : Packed) : Type 0 where
   pub itself_5 : StatesItself 5 part.section5
   pub itself_6 : StatesItself 6 part.section6
   pub itself_7 : StatesItself 7 part.section7
-  pub packing : packing_fault part.section5 points ≡ None
+  pub packing : packing_fault_under profile part.section5 points ≡ None
   pub alone : (bitmap_indicator part.section6 ≡ 0) ⊎ (bitmap_indicator part.section6 ≡ 255)
   pub bitmap : (earlier : Option (List Bool)) → first_fault (bitmap_rows part.section6 points (value_count part.section5) earlier) ≡ None
   pub values : data_fault part.section5 part.section7 ≡ None
@@ -96,14 +96,14 @@ pub record MayBeAssembledWithUnder (profile : Profile) (grid : List ℕ → List
   pub accepted : IsMessageUnder profile message
   pub one_each : length parts ≡ field_count message
   pub grids : (i : ℕ) → 1 ≤ i → i ≤ field_count message → IsGridUnder profile (part_octets message i 3) → IsGridUnder profile (grid (part_octets message i 3))
-  pub pass : (i : ℕ) (part : Packed) → slice_get parts i ≡ Some part → PartsPass (grid_points (grid (part_octets message (i + 1) 3))) part
+  pub pass : (i : ℕ) (part : Packed) → slice_get parts i ≡ Some part → PartsPassUnder profile (grid_points (grid (part_octets message (i + 1) 3))) part
   pub most : length (assembled_with grid message parts) ≤ 268435456
 
 -- an accepted message, and a part for each field that may stand in it
 pub record MayBeAssembledUnder (profile : Profile) (message : List ℕ) (parts : List Packed) : Type 0 where
   pub accepted : IsMessageUnder profile message
   pub one_each : length parts ≡ field_count message
-  pub pass : (i : ℕ) (part : Packed) → slice_get parts i ≡ Some part → PartsPass (grid_points (part_octets message (i + 1) 3)) part
+  pub pass : (i : ℕ) (part : Packed) → slice_get parts i ≡ Some part → PartsPassUnder profile (grid_points (part_octets message (i + 1) 3)) part
   pub most : length (assembled message parts) ≤ 268435456
 
 -- ---- under the profile of the stated templates

@@ -1,6 +1,6 @@
 -- What a message of edition 2 is (WMO-No. 306, Volume I.2, FM 92 GRIB edition 2): Section 0, other sections
 -- one after another, and `7777`. It says how a whole message is joined, and nothing of how it is read.
-use Rattle.std.specs.Prelude.{◌≡◌, ℕ, ◌+◌, ◌≤◌, IsTrue, false, None, List, [], ◌∷◌, ◌++◌, length, take}
+use Rattle.std.specs.Prelude.{◌≡◌, ℕ, ◌+◌, ◌≤◌, IsTrue, true, false, None, List, [], ◌∷◌, ◌++◌, length, take}
 use Rattle.std.specs.List.{concat}
 use Rattle.grib_base.specs.declared.profile.Profile.{Profile}
 use Rattle.grib_base.specs.declared.profile.Profile.TheVariants.{Stated}
@@ -8,7 +8,7 @@ use Rattle.grib2_sections.specs.Head.{indicator, end_mark, edition, total_length
 use Rattle.grib2_sections.specs.Frame.{Placed, placed_at, section_length, section_number, may_follow, may_end}
 use Rattle.grib2_grids.specs.Opaque.{is_opaque_grid}
 use Rattle.grib2_products.specs.Opaque.{is_opaque_product}
-use Rattle.grib_packing.specs.Entries.{is_opaque_packing}
+use Rattle.grib_packing.specs.Entries.{is_stated_packing}
 use Rattle.grib2_message.specs.View.{last_number}
 use Rattle.grib2_message.specs.Acceptance.{section_fault_under}
 
@@ -35,13 +35,13 @@ pub record GrammarUnder (profile : Profile) (octets : List ℕ) (sections : List
   pub most : length octets ≤ 268435456
   pub sections_follow : AreSections profile [] 17 sections
 
--- the grid, the product or the packing of a section is not opaque
+-- the stated profile has the template of a section: of its grid, its product or its packing
 pub record HasStatedTemplate (s : Placed) : Type 0 where
   pub grid : section_number s.octets ≡ 3 → is_opaque_grid s.octets ≡ false
   pub product : section_number s.octets ≡ 4 → is_opaque_product s.octets ≡ false
-  pub packing : section_number s.octets ≡ 5 → is_opaque_packing s.octets ≡ false
+  pub packing : section_number s.octets ≡ 5 → is_stated_packing s.octets ≡ true
 
--- nor are those of any of these sections
+-- and those of each of these sections
 abbrev pub HaveStatedTemplates : List Placed → Type 0
 HaveStatedTemplates [] = Unit {0}
 HaveStatedTemplates (s ∷ sections) = HasStatedTemplate s × HaveStatedTemplates sections

@@ -41,7 +41,7 @@ AnyFieldPasses = FieldPassesUnder Open
 
 -- ---- a message whose values can be read
 
--- the packing of field i is a stated one, so that its values can be read
+-- the packing of field i is one whose values can be read
 abbrev pub HasValues : List ℕ → ℕ → Type 0
 HasValues message i = is_opaque_packing (part_octets message i 5) ≡ false
 
@@ -49,7 +49,7 @@ HasValues message i = is_opaque_packing (part_octets message i 5) ≡ false
 abbrev pub IsReadable : List ℕ → Type 0
 IsReadable message = (i : ℕ) → 1 ≤ i → i ≤ field_count message → HasValues message i
 
--- no row refuses the sections in force for field i, and its packing is a stated one
+-- no row refuses the sections in force for field i, and its values can be read
 pub record FieldReadsUnder (profile : Profile) (message : List ℕ) (i : ℕ) : Type 0 where
   pub identification : first_fault (identification_rows (part_octets message i 1)) ≡ None
   pub grid : first_fault (grid_rows_under profile (part_octets message i 3)) ≡ None

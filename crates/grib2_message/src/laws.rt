@@ -31,8 +31,8 @@ pub fn accepted_is_in_the_grammar()
         → GrammarUnder profile message sections → sections_of (message ++ after) ≡ sections_of message }
 {}
 
-/// What the profile of the stated templates accepts, the open one accepts, with the same length. Where no grid, no
-/// product and no packing is opaque, the two accept the same.
+/// What the profile of the stated templates accepts, the open one accepts, with the same length. Where the stated one
+/// has the template of each grid, product and packing, the two accept the same.
 pub fn profiles_differ_in_opaque_templates_alone()
     ensures opened { (rest : List ℕ) (total : ℕ) → verdict_under Stated rest ≡ Accepted total
         → verdict_under Open rest ≡ Accepted total }

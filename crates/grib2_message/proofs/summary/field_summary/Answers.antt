@@ -9,7 +9,7 @@ use Rattle.grib2_products.specs.Opaque.{instant_shift}
 use Rattle.grib2_products.proofs.Under.{product_parameter_length, product_instant_length}
 use Rattle.grib_packing.specs.Entries.{is_opaque_packing, packing_fault}
 use Rattle.grib_packing.proofs.Packings.{packing_passes}
-use Rattle.grib_packing.proofs.OpaquePackings.{known_under, passes_under}
+use Rattle.grib_packing.proofs.OpaquePackings.{passes_under, read_under}
 use Rattle.grib_base.specs.declared.profile.Profile.TheVariants.{Open}
 use Rattle.grib2_message.proofs.summary.field_summary.Goals as goal
 
@@ -42,7 +42,7 @@ with_representation-requires c =
     record {
       least = omega (arith, (passes_under Open s5 points passes).long, long);
       known = λ known.
-          let stated : packing_fault s5 points ≡ None = sym (known_under Open s5 points (ap is_opaque_packing (sym is) ∙ known)) ∙ passes in
+          let stated : packing_fault s5 points ≡ None = read_under Open s5 points (ap is_opaque_packing (sym is) ∙ known) passes in
           omega (arith, (packing_passes s5 points stated).long, long);
     }
 

@@ -8,6 +8,7 @@ use Rattle.grib2_sections.specs.Frame.{placed_at, may_follow}
 use Rattle.grib2_message.specs.View.{last_number, octets_in_force}
 use Rattle.grib2_message.proofs.After.{fault_by_number, number_in_range, number_below, force_other, force_grid, force_read, force_bitmap}
 use Rattle.grib2_message.proofs.Checked.{products_are_fields, tried_as}
+use Rattle.grib2_message.proofs.Masks.{points_bounds}
 use Rattle.grib2_message.proofs.Order.{Follows, follows_tells}
 use Rattle.grib2_message.proofs.Sound.{none_located}
 use Rattle.grib2_message.proofs.in_force.InForce.go_past.Goals as goal
@@ -46,6 +47,14 @@ returns-in-4-clause-tried c = λ before h follows.
     (fault_by_number before at section.number numbered c.args.self.now.profile 4 c.in-4.is ∙ ap (λ (n : ℕ). first_fault_at section.start (product_rows_under c.args.self.now.profile s (n + 1))) count) c.check_product.ensures
     (λ none. force_other before at section.number numbered follows c.args.self.now h none
     (λ x. absurd (omega (arith, c.in-4.is))) (λ x. absurd (omega (arith, c.in-4.is))) (λ x. absurd (omega (arith, c.in-4.is))) (λ x. absurd (omega (arith, c.in-4.is))))
+
+pub read-requires : goal.read-requires
+read-requires c =
+    let r = c.requires.follows in
+    let section = c.args.section.now in
+    let below = number_below r.0 (placed_at section.start section.octets.now) section.number section.itself.number_stands r.2 (omega (arith, c.in-5.is)) in
+    let bounds = points_bounds c.args.self.now.profile (octets_in_force 3 r.0) (r.1.sound.grid (omega (arith, below, c.in-5.is))) in
+    omega (arith, bounds.1, r.1.points)
 
 pub returns-in_ok-read-in-5-clause-tried : goal.returns-in_ok-read-in-5-clause-tried
 returns-in_ok-read-in-5-clause-tried c = λ before h follows.

@@ -3,7 +3,7 @@ use Rattle.grib2_sections.specs.Frame.{placed_at}
 use Rattle.grib2_grids.proofs.Under.{grid_header_length}
 use Rattle.grib2_products.proofs.Under.{product_parameter_length, product_instant_length}
 use Rattle.grib_packing.proofs.Packings.{packing_passes}
-use Rattle.grib_packing.proofs.OpaquePackings.{known_under, passes_under}
+use Rattle.grib_packing.proofs.OpaquePackings.{passes_under, read_under}
 use Rattle.grib2_message.proofs.Sound.{none_located}
 use Rattle.grib2_message.proofs.After.{fault_by_number}
 use Rattle.grib2_message.proofs.Described.{line_first, line_third, line_fourth, line_fifth, line_other}
@@ -39,7 +39,7 @@ with_representation-requires c =
     let none = none_located section.start _ (sym (fault_by_number r.1 (placed_at section.start section.octets.now) section.number section.itself.number_stands r.0 5 c.in-5.is) ∙ r.2) in
     record {
       least = (passes_under r.0 section.octets.now _ none).long;
-      known = λ known. omega (arith, (packing_passes section.octets.now _ (sym (known_under r.0 section.octets.now _ known) ∙ none)).long);
+      known = λ known. omega (arith, (packing_passes section.octets.now _ (read_under r.0 section.octets.now _ known none)).long);
     }
 
 pub returns-in-1 : goal.returns-in-1
