@@ -14,7 +14,7 @@ use Rattle.grib_packing.specs.declared.written.Packed.{Packed}
 use Rattle.grib2_message.specs.View.{is_numbered, octets_in_force}
 use Rattle.grib2_message.specs.Grammar.{GrammarUnder}
 use Rattle.grib2_message.specs.Fields.{sections_of, field_count, field_sections, sections_up_to_field, part_octets, field_bitmap, column_of}
-use Rattle.grib2_message.specs.Assembled.{assembled, replaced, in_place_with, as_it_is, IsGridUnder, PartsPass, MayBeAssembledUnder}
+use Rattle.grib2_message.specs.Assembled.{assembled, replaced, in_place_with, as_it_is, IsGridUnder, PartsPassUnder, MayBeAssembledUnder}
 use Rattle.grib2_message.proofs.Latest.{own_alone}
 use Rattle.grib2_message.proofs.Parted.{message_parted, message_least, joined_grammar}
 use Rattle.grib2_message.proofs.Placing.{placed_from}
@@ -127,8 +127,8 @@ module _ (profile : Profile) (m : List ℕ) (parts : List Packed) (h : MayBeAsse
       subst (λ (xs : List Placed). Rebuilt profile as_it_is parts [] 17 17 p.sections (replaced xs parts)) (sym p.found)
       (rebuilt profile as_it_is p.sections parts [] [] 17 17 p.follow tt (outside parts [] (λ low high. absurd (omega arith))) (sound_none profile) each
       (λ i part e.
-      subst (λ (xs : List Placed). PartsPass (grid_points (octets_in_force 3 (sections_up_to_field (suc i) [] xs))) part) p.found
-      (subst (λ (n : ℕ). PartsPass (grid_points (part_octets m n 3)) part) (add-one i) (h.pass i part e)))
+      subst (λ (xs : List Placed). PartsPassUnder profile (grid_points (octets_in_force 3 (sections_up_to_field (suc i) [] xs))) part) p.found
+      (subst (λ (n : ℕ). PartsPassUnder profile (grid_points (part_octets m n 3)) part) (add-one i) (h.pass i part e)))
       (h.one_each ∙ ap (count_by (is_numbered 7)) p.found))
 
   grammar : GrammarUnder profile (assembled m parts) news
@@ -165,54 +165,54 @@ bitmap_alone m i s is alone =
     own_alone (field_sections m i) (other alone) ∙ is
 
 -- the smallest form of a field is its own form afterwards
-form_again : (m other : List ℕ) (i : ℕ) → column_of other i ≡ column_of m i → Stands m i (least_form m i)
-    → (let p = least_form m i in (part_octets other i 5 ≡ p.section5) × (part_octets other i 6 ≡ p.section6) × (part_octets other i 7 ≡ p.section7))
-    → least_form other i ≡ least_form m i
-form_again m other i column stands has =
-    let p = least_form m i in
+form_again : (profile : Profile) (m other : List ℕ) (i : ℕ) → column_of other i ≡ column_of m i → Stands profile m i (least_form profile m i)
+    → (let p = least_form profile m i in (part_octets other i 5 ≡ p.section5) × (part_octets other i 6 ≡ p.section6) × (part_octets other i 7 ≡ p.section7))
+    → least_form profile other i ≡ least_form profile m i
+form_again profile m other i column stands has =
+    let p = least_form profile m i in
     let bitmap = bitmap_alone other i p.section6 has.1 stands.passes.alone in
     let own : own_form other i ≡ p = λ j. record { section5 = has.0 j; section6 = bitmap j; section7 = has.2 j } in
     let kind : kind_of other i ≡ kind_of m i = ap (λ (s : List ℕ). octets s 21 21) has.0 ∙ stands.kind in
-    (λ j. smallest (own j) (filter_map (form_of (column j) (kind j)) targets))
-    ∙ smallest_stays p (packed_forms m i) (smallest_least (own_form m i) (packed_forms m i)).1
+    (λ j. smallest (own j) (filter_map (form_of (column j) (kind j)) (targets profile)))
+    ∙ smallest_stays p (packed_forms profile m i) (smallest_least (own_form m i) (packed_forms profile m i)).1
 
 -- ---- the whole
 
 -- what is known of the message that is put together
 pub record Put (profile : Profile) (m other : List ℕ) : Type 0 where
-  pub may : MayBeAssembledUnder profile m (least_forms m)
-  pub stands : (i : ℕ) → 1 ≤ i → i ≤ field_count m → Stands m i (least_form m i)
+  pub may : MayBeAssembledUnder profile m (least_forms profile m)
+  pub stands : (i : ℕ) → 1 ≤ i → i ≤ field_count m → Stands profile m i (least_form profile m i)
   pub fields : field_count other ≡ field_count m
   pub columns : (i : ℕ) → 1 ≤ i → i ≤ field_count m → column_of other i ≡ column_of m i
   pub parts : (i : ℕ) → 1 ≤ i → i ≤ field_count m
-      → let p = least_form m i in (part_octets other i 5 ≡ p.section5) × (part_octets other i 6 ≡ p.section6) × (part_octets other i 7 ≡ p.section7)
+      → let p = least_form profile m i in (part_octets other i 5 ≡ p.section5) × (part_octets other i 6 ≡ p.section6) × (part_octets other i 7 ≡ p.section7)
 
-module _ (profile : Profile) (m : List ℕ) (put : Put profile m (assembled m (least_forms m))) where
-  forms_again : least_forms (assembled m (least_forms m)) ≡ least_forms m
+module _ (profile : Profile) (m : List ℕ) (put : Put profile m (assembled m (least_forms profile m))) where
+  forms_again : least_forms profile (assembled m (least_forms profile m)) ≡ least_forms profile m
   forms_again =
-      let other = assembled m (least_forms m) in
-      ap (λ (n : ℕ). map (least_form other) (range_with_len 1 n)) put.fields
-      ∙ same_from (least_form other) (least_form m) 1 (field_count m)
-      (λ i low high. form_again m other i (put.columns i low (omega arith)) (put.stands i low (omega arith)) (put.parts i low (omega arith)))
+      let other = assembled m (least_forms profile m) in
+      ap (λ (n : ℕ). map (least_form profile other) (range_with_len 1 n)) put.fields
+      ∙ same_from (least_form profile other) (least_form profile m) 1 (field_count m)
+      (λ i low high. form_again profile m other i (put.columns i low (omega arith)) (put.stands i low (omega arith)) (put.parts i low (omega arith)))
 
-  numbered : AreNumbered (least_forms m)
+  numbered : AreNumbered (least_forms profile m)
   numbered =
-      numbered_from (least_form m) 1 (field_count m)
+      numbered_from (least_form profile m) 1 (field_count m)
       (λ i low high.
       let passes = (put.stands i low (omega arith)).passes in
       record { five = passes.itself_5.number_stands; six = passes.itself_6.number_stands; seven = passes.itself_7.number_stands })
 
-  whole_again : least (assembled m (least_forms m)) ≡ assembled m (least_forms m)
+  whole_again : least profile (assembled m (least_forms profile m)) ≡ assembled m (least_forms profile m)
   whole_again =
-      let other = assembled m (least_forms m) in
-      let again : assembled other (least_forms other) ≡ other = ap (assembled other) forms_again ∙ assembled_again profile m (least_forms m) put.may numbered in
+      let other = assembled m (least_forms profile m) in
+      let again : assembled other (least_forms profile other) ≡ other = ap (assembled other) forms_again ∙ assembled_again profile m (least_forms profile m) put.may numbered in
       ap (shorter other) again
       ∙ ap (λ (b : Bool). cond b other other) (le-ltb (length other) (length other) (omega arith))
 
 -- the shorter of a message and another, once more
-pub again_least : (profile : Profile) (m : List ℕ) → (length (assembled m (least_forms m)) < length m → Put profile m (assembled m (least_forms m))) → least (least m) ≡ least m
-again_least profile m put = go (assembled m (least_forms m)) refl (nat_lt (length (assembled m (least_forms m))) (length m)) refl where
-  go : (other : List ℕ) → other ≡ assembled m (least_forms m) → (b : Bool) → nat_lt (length other) (length m) ≡ b → least (cond b other m) ≡ cond b other m
+pub again_least : (profile : Profile) (m : List ℕ) → (length (assembled m (least_forms profile m)) < length m → Put profile m (assembled m (least_forms profile m))) → least profile (least profile m) ≡ least profile m
+again_least profile m put = go (assembled m (least_forms profile m)) refl (nat_lt (length (assembled m (least_forms profile m))) (length m)) refl where
+  go : (other : List ℕ) → other ≡ assembled m (least_forms profile m) → (b : Bool) → nat_lt (length other) (length m) ≡ b → least profile (cond b other m) ≡ cond b other m
   go other is true e =
-      subst (λ (x : List ℕ). least x ≡ x) (sym is) (whole_again profile m (put (omega (arith, ap length is, ltb-true (length other) (length m) e))))
+      subst (λ (x : List ℕ). least profile x ≡ x) (sym is) (whole_again profile m (put (omega (arith, ap length is, ltb-true (length other) (length m) e))))
   go other is false e = sym (ap (shorter m) is) ∙ ap (λ (b : Bool). cond b other m) e

@@ -12,7 +12,7 @@ use Rattle.grib2_sections.specs.Frame.{Placed}
 use Rattle.grib_bitmap.specs.Mask.{bitmap_indicator, bitmap_rows, mask_of}
 use Rattle.grib_packing.specs.declared.column.Column.{Column}
 use Rattle.grib_packing.specs.Entries.{column_from}
-use Rattle.grib_packing.specs.Misfits.{Target, ToSimple, ToComplex, ToSpatial, first_misfit}
+use Rattle.grib_packing.specs.Misfits.{Target, ToSimple, ToComplex, ToSpatial, ToCoded, first_misfit}
 use Rattle.grib_packing.specs.Packed.{Packed as HasPacked}
 use Rattle.grib_packing.specs.Packing.{value_count}
 use Rattle.grib_packing.specs.Written.{IsTarget}
@@ -21,7 +21,7 @@ use Rattle.grib_packed.specs.Written.{packed}
 use Rattle.grib2_message.specs.View.{is_numbered, octets_in_force, earlier_bitmap, first_octets, own_bitmap}
 use Rattle.grib2_message.specs.Fields.{field_count, field_sections, part_octets, field_bitmap, field_mask, column_of}
 use Rattle.grib2_message.specs.Message.{IsMessageUnder, IsReadable, FieldPassesUnder}
-use Rattle.grib2_message.specs.Assembled.{assembled, PartsPass, MayBeAssembledUnder}
+use Rattle.grib2_message.specs.Assembled.{assembled, PartsPassUnder, MayBeAssembledUnder}
 use Rattle.grib2_message.proofs.Bitmaps.{rows_alone}
 use Rattle.grib2_message.proofs.Latest.{own_alone, own_repeated}
 use Rattle.grib2_message.proofs.Parted.{message_most}
@@ -29,11 +29,11 @@ use Rattle.grib2_message.proofs.Passed.{passes_from_none}
 use Rattle.grib_select.proofs.Accepted.{field_up_to}
 use Rattle.grib_select.proofs.Alone.{parts}
 use Rattle.grib_select.proofs.Cut.{stands_alone}
-use Rattle.grib_repack.specs.Repacked.{kind_of}
+use Rattle.grib_repack.specs.Repacked.{HasPacking, kind_of}
 use Rattle.grib_repack.proofs.Octets.{part_of_octets, octets_few}
 use Rattle.grib_repack.proofs.Columns.{column_long, may_be_packed, has_words, kind_small}
 use Rattle.grib_repack.proofs.Kept.{IsWritten, Unpacks, reads}
-use Rattle.grib_repack.proofs.Sections.{are_written}
+use Rattle.grib_repack.proofs.Sections.{are_written, accepted_under}
 use Rattle.grib_least.specs.Least.{own_form, form_of, packed_forms, least_form, least_forms, shorter, least}
 use Rattle.grib_least.proofs.Smallest.{smallest_of, each_packed, counts}
 
@@ -105,8 +105,8 @@ module _ (profile : Profile) (message : List ℕ) (i : ℕ) (accepted : IsMessag
 -- ---- the forms of a field
 
 -- It may stand for field i, whose column it has, with the type of the original values.
-pub record Stands (message : List ℕ) (i : ℕ) (form : Packed) : Type 0 where
-  pub passes : PartsPass (grid_points (part_octets message i 3)) form
+pub record Stands (profile : Profile) (message : List ℕ) (i : ℕ) (form : Packed) : Type 0 where
+  pub passes : PartsPassUnder profile (grid_points (part_octets message i 3)) form
   pub column : column_from form.section5 (mask_of form.section6 (grid_points (part_octets message i 3)) None) form.section7 ≡ column_of message i
   pub kind : octets form.section5 21 21 ≡ kind_of message i
 
@@ -114,13 +114,14 @@ kind_stands : (target : Target) (column : Column) (kind : ℕ) (s5 s6 s7 : List 
 kind_stands ToSimple column kind s5 s6 s7 has = has.numbers.kind_stands
 kind_stands ToComplex column kind s5 s6 s7 has = has.numbers.kind_stands
 kind_stands (ToSpatial order) column kind s5 s6 s7 has = has.numbers.kind_stands
+kind_stands (ToCoded block interval) column kind s5 s6 s7 has = has.numbers.kind_stands
 
 module _ (written : IsWritten) (unpack : Unpacks) (profile : Profile)
     (passes : (message : List ℕ) (i : ℕ) → IsMessageUnder profile message → 1 ≤ i → i ≤ field_count message → FieldPassesUnder profile message i)
     (masks : (message : List ℕ) (i : ℕ) → IsMessageUnder profile message → All (λ octet. octet < 256) message → 1 ≤ i → i ≤ field_count message
     → length (field_mask message i) ≡ grid_points (part_octets message i 3))
     (message : List ℕ) (accepted : IsMessageUnder profile message) (readable : IsReadable message) (each : All (λ octet. octet < 256) message) where
-  own_stands : (i : ℕ) → 1 ≤ i → i ≤ field_count message → Stands message i (own_form message i)
+  own_stands : (i : ℕ) → 1 ≤ i → i ≤ field_count message → Stands profile message i (own_form message i)
   own_stands i low high =
       let p = parts profile message i accepted low high in
       let here = reads profile message i (passes message i accepted low high) (readable i low high) in
@@ -133,7 +134,7 @@ module _ (written : IsWritten) (unpack : Unpacks) (profile : Profile)
           itself_5 = p.itself_5;
           itself_6 = p.itself_6;
           itself_7 = p.itself_7;
-          packing = here.packing;
+          packing = (passes message i accepted low high).packing;
           alone = own_indicator profile message i accepted each low high;
           bitmap = λ earlier. rows_alone s6 points (value_count (part_octets message i 5)) p.alone earlier None ∙ p.bitmap;
           values = p.values;
@@ -142,9 +143,9 @@ module _ (written : IsWritten) (unpack : Unpacks) (profile : Profile)
         kind = refl;
       }
 
-  packed_stands : (i : ℕ) → 1 ≤ i → i ≤ field_count message → (target : Target) → IsTarget target → first_misfit target (column_of message i).points ≡ None
-      → Stands message i (packed target (column_of message i) (kind_of message i))
-  packed_stands i low high target is none =
+  packed_stands : (i : ℕ) → 1 ≤ i → i ≤ field_count message → (target : Target) → IsTarget target → HasPacking profile target → first_misfit target (column_of message i).points ≡ None
+      → Stands profile message i (packed target (column_of message i) (kind_of message i))
+  packed_stands i low high target is own none =
       let column = column_of message i in
       let kind = kind_of message i in
       let p = packed target column kind in
@@ -156,38 +157,38 @@ module _ (written : IsWritten) (unpack : Unpacks) (profile : Profile)
       let back = unpack target is column kind p.section5 p.section6 p.section7 packable none has in
       let w = are_written target column kind p.section5 p.section6 p.section7 has in
       let as_long : length column.points ≡ grid_points (part_octets message i 3) = column_long message i here long in
-      let pass : PartsPass (length column.points) p = record {
+      let pass : PartsPassUnder profile (length column.points) p = record {
         itself_5 = w.itself_5;
         itself_6 = w.itself_6;
         itself_7 = w.itself_7;
-        packing = back.representation;
+        packing = accepted_under profile target column kind p.section5 p.section6 p.section7 (length column.points) own has back.representation;
         alone = w.alone;
         bitmap = back.bitmap;
         values = back.values;
       } in
       record {
-        passes = subst (λ (n : ℕ). PartsPass n p) as_long pass;
+        passes = subst (λ (n : ℕ). PartsPassUnder profile n p) as_long pass;
         column = ap (λ (n : ℕ). column_from p.section5 (mask_of p.section6 n None) p.section7) (sym as_long) ∙ back.column_stands None;
         kind = kind_stands target column kind p.section5 p.section6 p.section7 has;
       }
 
-  pub least_stands : (i : ℕ) → 1 ≤ i → i ≤ field_count message → Stands message i (least_form message i)
+  pub least_stands : (i : ℕ) → 1 ≤ i → i ≤ field_count message → Stands profile message i (least_form profile message i)
   least_stands i low high =
       let column = column_of message i in
       let kind = kind_of message i in
-      smallest_of (Stands message i) (own_form message i) (packed_forms message i) (own_stands i low high)
-      (each_packed (Stands message i) (form_of column kind)
-      (λ target is p e.
+      smallest_of (Stands profile message i) (own_form message i) (packed_forms profile message i) (own_stands i low high)
+      (each_packed profile (Stands profile message i) (form_of column kind)
+      (λ target is own p e.
       let c = counts (first_misfit target column.points) (packed target column kind) p e in
-      subst (Stands message i) c.1 (packed_stands i low high target is c.0)))
+      subst (Stands profile message i) c.1 (packed_stands i low high target is own c.0)))
 
-  pub may_be_assembled : length (assembled message (least_forms message)) ≤ 268435456 → MayBeAssembledUnder profile message (least_forms message)
+  pub may_be_assembled : length (assembled message (least_forms profile message)) ≤ 268435456 → MayBeAssembledUnder profile message (least_forms profile message)
   may_be_assembled few = record {
     accepted = accepted;
-    one_each = length-map-range_with_len (least_form message) 1 (field_count message);
+    one_each = length-map-range_with_len (least_form profile message) 1 (field_count message);
     pass = λ k part e.
-        let at = part_is (least_form message) (field_count message) k part e in
-        subst (λ (p : Packed). PartsPass (grid_points (part_octets message (k + 1) 3)) p) at.1
+        let at = part_is (least_form profile message) (field_count message) k part e in
+        subst (λ (p : Packed). PartsPassUnder profile (grid_points (part_octets message (k + 1) 3)) p) at.1
         (least_stands (k + 1) (omega arith) (omega (arith, at.0))).passes;
     most = few;
   }
@@ -202,9 +203,9 @@ shorter_is P message other here there = go (nat_lt (length other) (length messag
   go false e = here
 
 pub least_is : (profile : Profile) (P : List ℕ → Type 0) (message : List ℕ) → IsMessageUnder profile message → P message
-    → (length (assembled message (least_forms message)) ≤ 268435456 → P (assembled message (least_forms message))) → P (least message)
+    → (length (assembled message (least_forms profile message)) ≤ 268435456 → P (assembled message (least_forms profile message))) → P (least profile message)
 least_is profile P message accepted here there =
-    shorter_is P message (assembled message (least_forms message)) here (λ low. there (omega (arith, low, message_most profile message accepted)))
+    shorter_is P message (assembled message (least_forms profile message)) here (λ low. there (omega (arith, low, message_most profile message accepted)))
 
 pub no_longer : (message other : List ℕ) → length (shorter message other) ≤ length message
 no_longer message other = shorter_is (λ (x : List ℕ). length x ≤ length message) message other (omega arith) (λ low. omega (arith, low))

@@ -1,10 +1,14 @@
 -- Lemmas on the first of the smallest forms.
-use Rattle.std.proofs.Common.{◌≡◌, ℕ, ◌+◌, ◌≤◌, ◌<◌, ◌⊎◌, Bool, true, false, cond, nat_lt, min, Option, Some, None, unwrap_or, List, [], ◌∷◌, inl, inr, refl, sym, ap, ◌∙◌, arith, subst, lt-ltb, le-ltb, ltb-false}
+use Rattle.std.proofs.Common.{◌≡◌, ℕ, ◌+◌, ◌≤◌, ◌<◌, ◌⊎◌, Bool, true, false, cond, nat_lt, min, Option, Some, None, unwrap_or, List, [], ◌∷◌, All, inl, inr, refl, sym, ap, ◌∙◌, arith, subst, lt-ltb, le-ltb, ltb-false}
 use Rattle.std.specs.List.{cons_option, filter_map}
 use Rattle.std.proofs.lemmas.Bool.{ltb-true}
-use Rattle.grib_packing.specs.Misfits.{Target, ToSimple, ToComplex, ToSpatial, Misfit}
-use Rattle.grib_packing.specs.Written.{IsTarget}
+use Rattle.std.proofs.lemmas.List.Elements.{All-nil, All-cons}
+use Rattle.grib_base.specs.declared.profile.Profile.{Profile}
+use Rattle.grib_base.specs.declared.profile.Profile.TheVariants.{Stated, Open}
+use Rattle.grib_packing.specs.Misfits.{Target, Misfit}
+use Rattle.grib_packing.specs.Written.{IsBlocks, IsTarget}
 use Rattle.grib_packing.specs.declared.written.Packed.{Packed}
+use Rattle.grib_repack.specs.Repacked.{HasPacking}
 use Rattle.grib_least.specs.Least.{targets, unless_misfit, size_of, smaller, smallest}
 use Rattle.grib_least.specs.Earlier.{or_earlier, or_form}
 
@@ -14,9 +18,38 @@ abbrev pub Each : (Packed → Type 0) → List Packed → Type 0
 Each P [] = Unit {0}
 Each P (form ∷ later) = P form × Each P later
 
-abbrev AreTargets : List Target → Type 0
-AreTargets [] = Unit {0}
-AreTargets (target ∷ later) = IsTarget target × AreTargets later
+-- targets of packings that a profile has
+abbrev AreTargets : Profile → List Target → Type 0
+AreTargets profile [] = Unit {0}
+AreTargets profile (target ∷ later) = (IsTarget target × HasPacking profile target) × AreTargets profile later
+
+pub of_blocks : (block : ℕ) → (block ≡ 8) ⊎ ((block ≡ 16) ⊎ ((block ≡ 32) ⊎ (block ≡ 64))) → IsBlocks block 128
+of_blocks block is = (is, omega arith, omega arith)
+
+are_targets : (profile : Profile) → AreTargets profile (targets profile)
+are_targets Stated = ((tt, tt), ((tt, tt), ((inl refl, tt), ((inr refl, tt), tt))))
+are_targets Open = (
+  (tt, tt),
+  (
+    (tt, tt),
+    (
+      (inl refl, tt),
+      (
+        (inr refl, tt),
+        (
+          (of_blocks 8 (inl refl), tt),
+          (
+            (of_blocks 16 (inr (inl refl)), tt),
+            (
+              (of_blocks 32 (inr (inr (inl refl))), tt),
+              ((of_blocks 64 (inr (inr (inr refl))), tt), tt),
+            ),
+          ),
+        ),
+      ),
+    ),
+  ),
+)
 
 smaller_of : (P : Packed → Type 0) (best form : Packed) → P best → P form → P (smaller best form)
 smaller_of P best form here there = go (nat_lt (size_of form) (size_of best)) where
@@ -32,15 +65,17 @@ each_here : (P : Packed → Type 0) (form : Option Packed) (later : List Packed)
 each_here P (Some form) later here each = (here form refl, each)
 each_here P None later here each = each
 
-each_of : (P : Packed → Type 0) (f : Target → Option Packed) → ((target : Target) → IsTarget target → (p : Packed) → f target ≡ Some p → P p)
-    → (those : List Target) → AreTargets those → Each P (filter_map f those)
-each_of P f each [] are = tt
-each_of P f each (target ∷ those) are =
-    each_here P (f target) (filter_map f those) (each target are.0) (each_of P f each those are.1)
+each_of : (profile : Profile) (P : Packed → Type 0) (f : Target → Option Packed)
+    → ((target : Target) → IsTarget target → HasPacking profile target → (p : Packed) → f target ≡ Some p → P p)
+    → (those : List Target) → AreTargets profile those → Each P (filter_map f those)
+each_of profile P f each [] are = tt
+each_of profile P f each (target ∷ those) are =
+    each_here P (f target) (filter_map f those) (each target are.0.0 are.0.1) (each_of profile P f each those are.1)
 
-pub each_packed : (P : Packed → Type 0) (f : Target → Option Packed) → ((target : Target) → IsTarget target → (p : Packed) → f target ≡ Some p → P p)
-    → Each P (filter_map f targets)
-each_packed P f each = each_of P f each targets (tt, (tt, (inl refl, (inr refl, tt))))
+pub each_packed : (profile : Profile) (P : Packed → Type 0) (f : Target → Option Packed)
+    → ((target : Target) → IsTarget target → HasPacking profile target → (p : Packed) → f target ≡ Some p → P p)
+    → Each P (filter_map f (targets profile))
+each_packed profile P f each = each_of profile P f each (targets profile) (are_targets profile)
 
 -- ---- it is the smallest
 
@@ -116,16 +151,16 @@ one_before : (own : Packed) (form : Option Packed) (later : List Packed) → sma
 one_before own (Some form) later = before_later own form later
 one_before own None later = refl
 
--- four of them
-pub four : (f : Target → Option Packed) (own : Packed) (a b c d : Target)
-    → smallest own (filter_map f (a ∷ b ∷ c ∷ d ∷ []))
-    ≡ or_form (size_of own) (f a) (or_form (size_of own) (f b) (or_form (size_of own) (f c) (or_form (size_of own) (f d) own)))
-four f own a b c d =
-    let limit = size_of own in
-    one_before own (f a) (filter_map f (b ∷ c ∷ d ∷ []))
-    ∙ ap (or_form limit (f a)) (one_before own (f b) (filter_map f (c ∷ d ∷ []))
-    ∙ ap (or_form limit (f b)) (one_before own (f c) (filter_map f (d ∷ []))
-    ∙ ap (or_form limit (f c)) (one_before own (f d) [])))
+-- the best of a form and those after it, told from the last of them on
+abbrev pub from_last : (Target → Option Packed) → ℕ → List Target → Packed → Packed
+from_last f limit [] own = own
+from_last f limit (target ∷ later) own = or_form limit (f target) (from_last f limit later own)
+
+pub smallest_from_last : (f : Target → Option Packed) (own : Packed) (those : List Target)
+    → smallest own (filter_map f those) ≡ from_last f (size_of own) those own
+smallest_from_last f own [] = refl
+smallest_from_last f own (target ∷ later) =
+    one_before own (f target) (filter_map f later) ∙ ap (or_form (size_of own) (f target)) (smallest_from_last f own later)
 
 -- a form that has too many octets is left out
 pub left_out : (limit : ℕ) (form best : Packed) → min limit (size_of best + 1) ≤ size_of form → or_earlier limit form best ≡ best
@@ -146,23 +181,12 @@ rest_of : (P : Packed → Type 0) (form : Option Packed) (later : List Packed) �
 rest_of P (Some form) later each = each.1
 rest_of P None later each = each
 
-module _ (P : Packed → Type 0) (f : Target → Option Packed) (each : Each P (filter_map f targets)) where
-  after_simple : Each P (filter_map f (ToComplex ∷ ToSpatial 1 ∷ ToSpatial 2 ∷ []))
-  after_simple = rest_of P (f ToSimple) (filter_map f (ToComplex ∷ ToSpatial 1 ∷ ToSpatial 2 ∷ [])) each
-
-  after_complex : Each P (filter_map f (ToSpatial 1 ∷ ToSpatial 2 ∷ []))
-  after_complex = rest_of P (f ToComplex) (filter_map f (ToSpatial 1 ∷ ToSpatial 2 ∷ [])) after_simple
-
-  after_first : Each P (filter_map f (ToSpatial 2 ∷ []))
-  after_first = rest_of P (f (ToSpatial 1)) (filter_map f (ToSpatial 2 ∷ [])) after_complex
-
-  pub is_tried : (target : Target) → IsTarget target → (p : Packed) → f target ≡ Some p → P p
-  is_tried ToSimple stands p is = first_of P (f ToSimple) (filter_map f (ToComplex ∷ ToSpatial 1 ∷ ToSpatial 2 ∷ [])) p is each
-  is_tried ToComplex stands p is = first_of P (f ToComplex) (filter_map f (ToSpatial 1 ∷ ToSpatial 2 ∷ [])) p is after_simple
-  is_tried (ToSpatial order) (inl one) p is =
-      first_of P (f (ToSpatial 1)) (filter_map f (ToSpatial 2 ∷ [])) p (subst (λ (n : ℕ). f (ToSpatial n) ≡ Some p) one is) after_complex
-  is_tried (ToSpatial order) (inr two) p is =
-      first_of P (f (ToSpatial 2)) [] p (subst (λ (n : ℕ). f (ToSpatial n) ≡ Some p) two is) after_first
+pub are_tried : (P : Packed → Type 0) (f : Target → Option Packed) (those : List Target) → Each P (filter_map f those)
+    → All (λ target. (p : Packed) → f target ≡ Some p → P p) those
+are_tried P f [] each = All-nil (λ target. (p : Packed) → f target ≡ Some p → P p)
+are_tried P f (target ∷ later) each =
+    All-cons (λ target. (p : Packed) → f target ≡ Some p → P p) target later
+    (λ p is. first_of P (f target) (filter_map f later) p is each) (are_tried P f later (rest_of P (f target) (filter_map f later) each))
 
 -- a form that counts
 pub counts : (misfit : Option Misfit) (form p : Packed) → unless_misfit misfit form ≡ Some p → (misfit ≡ None) × (form ≡ p)

@@ -1,9 +1,10 @@
 -- Lemmas on the form that is chosen.
-use Rattle.std.proofs.Common.{◌≡◌, ℕ, ◌+◌, ◌≤◌, ◌<◌, Bool, cond, nat_lt, min, Option, Some, None, List, length, refl, sym, ap, ◌∙◌, arith, subst, le-ltb}
+use Rattle.std.proofs.Common.{◌≡◌, ℕ, ◌+◌, ◌≤◌, ◌<◌, Bool, cond, nat_lt, min, Option, Some, None, List, [], ◌∷◌, length, inl, inr, refl, sym, ap, ◌∙◌, arith, subst, le-ltb}
 use Rattle.std.specs.List.{filter_map}
 use Rattle.grib_base.specs.declared.profile.Profile.{Profile}
 use Rattle.grib_packing.specs.declared.column.Column.{Column}
-use Rattle.grib_packing.specs.Misfits.{Target, ToSimple, ToComplex, ToSpatial, Misfit, first_misfit}
+use Rattle.grib_base.specs.declared.profile.Profile.TheVariants.{Stated, Open}
+use Rattle.grib_packing.specs.Misfits.{Target, Misfit, first_misfit}
 use Rattle.grib_packing.specs.Packed.{Packed as HasPacked}
 use Rattle.grib_packing.specs.declared.written.Packed.{Packed}
 use Rattle.grib_packing.specs.declared.written.PackFault.{PackFault}
@@ -16,13 +17,15 @@ use Rattle.grib2_message.specs.declared.fault.AssembleFault.TheVariants.{TooLong
 use Rattle.grib2_message.specs.Fields.{field_count, column_of}
 use Rattle.grib2_message.specs.Message.{IsMessageUnder}
 use Rattle.grib_select.proofs.Alone.{part_short}
+use Rattle.grib_repack.specs.declared.target.RepackTarget.{RepackTarget}
+use Rattle.grib_repack.specs.Faults.{target_of}
 use Rattle.grib_repack.specs.Repacked.{kind_of}
 use Rattle.grib_repack.proofs.Kept.{IsWritten}
 use Rattle.grib_repack.proofs.Packing.{IsOnly}
 use Rattle.grib_repack.proofs.Sections.{are_written}
 use Rattle.grib_least.specs.Least.{own_form, unless_misfit, form_of, least_form, size_of, smallest, targets}
-use Rattle.grib_least.specs.Earlier.{or_earlier, or_form}
-use Rattle.grib_least.proofs.Smallest.{four, left_out, that_fits}
+use Rattle.grib_least.specs.Earlier.{or_earlier, or_form, trials}
+use Rattle.grib_least.proofs.Smallest.{of_blocks, smallest_from_last, left_out, that_fits}
 
 same_parts : (p q : Packed) → (p.section5 ≡ q.section5) × (p.section6 ≡ q.section6) × (p.section7 ≡ q.section7) → p ≡ q
 same_parts p q e = λ i. record { section5 = e.0 i; section6 = e.1 i; section7 = e.2 i }
@@ -73,23 +76,43 @@ pub without_packed : (target : Target) (column : Column) (kind limit : ℕ) (bes
     → best ≡ or_form limit (form_of column kind target) best
 without_packed target column kind limit best fault is other = misfit_there (first_misfit target column.points) limit (packed target column kind) best fault is other
 
--- the four packings, from the last to the first
-pub form_is : (message : List ℕ) (i limit : ℕ) (own one two three last : Packed) → own ≡ own_form message i → limit ≡ size_of own
-    → (let f = form_of (column_of message i) (kind_of message i) in
-    one ≡ or_form limit (f (ToSpatial 2)) own
-    → two ≡ or_form limit (f (ToSpatial 1)) one
-    → three ≡ or_form limit (f ToComplex) two
-    → last ≡ or_form limit (f ToSimple) three
-    → last ≡ least_form message i)
-form_is message i limit own one two three last own_is limit_is first second third fourth =
+-- ---- one packing after another, from the last to the first
+
+abbrev pub tried : (Target → Option Packed) → ℕ → List RepackTarget → Packed → Packed
+tried f limit [] best = best
+tried f limit (trial ∷ later) best = tried f limit later (or_form limit (f (target_of trial)) best)
+
+abbrev pub AreTrials : List RepackTarget → Type 0
+AreTrials [] = Unit {0}
+AreTrials (trial ∷ later) = IsTarget (target_of trial) × AreTrials later
+
+pub are_trials : (profile : Profile) → AreTrials (trials profile)
+are_trials Stated = (inr refl, (inl refl, (tt, (tt, tt))))
+are_trials Open = (
+  of_blocks 64 (inr (inr (inr refl))),
+  (
+    of_blocks 32 (inr (inr (inl refl))),
+    (
+      of_blocks 16 (inr (inl refl)),
+      (
+        of_blocks 8 (inl refl),
+        (inr refl, (inl refl, (tt, (tt, tt)))),
+      ),
+    ),
+  ),
+)
+
+all_tried : (profile : Profile) (f : Target → Option Packed) (own : Packed) → tried f (size_of own) (trials profile) own ≡ smallest own (filter_map f (targets profile))
+all_tried Stated f own = sym (smallest_from_last f own (targets Stated))
+all_tried Open f own = sym (smallest_from_last f own (targets Open))
+
+pub form_is : (profile : Profile) (message : List ℕ) (i limit : ℕ) (own : Packed) → own ≡ own_form message i → limit ≡ size_of own
+    → tried (form_of (column_of message i) (kind_of message i)) limit (trials profile) own ≡ least_form profile message i
+form_is profile message i limit own own_is limit_is =
     let f = form_of (column_of message i) (kind_of message i) in
-    fourth
-    ∙ ap (or_form limit (f ToSimple)) (third
-    ∙ ap (or_form limit (f ToComplex)) (second
-    ∙ ap (or_form limit (f (ToSpatial 1))) first))
-    ∙ ap (λ (n : ℕ). or_form n (f ToSimple) (or_form n (f ToComplex) (or_form n (f (ToSpatial 1)) (or_form n (f (ToSpatial 2)) own)))) limit_is
-    ∙ sym (four f own ToSimple ToComplex (ToSpatial 1) (ToSpatial 2))
-    ∙ ap (λ (p : Packed). smallest p (filter_map f targets)) own_is
+    ap (λ (n : ℕ). tried f n (trials profile) own) limit_is
+    ∙ all_tried profile f own
+    ∙ ap (λ (p : Packed). smallest p (filter_map f (targets profile))) own_is
 
 -- a message that is not put together, since it would be too long
 pub long_by : (total n : ℕ) (fault : AssembleFault) → fault ≡ TooLong n → IsAssembleFault total fault → 268435456 < total

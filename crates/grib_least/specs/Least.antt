@@ -1,9 +1,11 @@
 -- What a message is in the fewest octets: each field in the one of its forms that takes the fewest octets in
--- Sections 5, 6 and 7 (WMO-No. 306, Volume I.2, FM 92 GRIB edition 2, code table 5.0). All other octets but the
--- total length stay.
+-- Sections 5, 6 and 7 (WMO-No. 306, Volume I.2, FM 92 GRIB edition 2, code table 5.0), of the packings that a profile
+-- has. All other octets but the total length stay.
 use Rattle.std.specs.Prelude.{ℕ, ◌+◌, cond, Option, Some, None, List, [], ◌∷◌, length, map, nat_lt}
 use Rattle.std.specs.List.{range_with_len, filter_map}
-use Rattle.grib_packing.specs.Misfits.{Target, ToSimple, ToComplex, ToSpatial, Misfit, first_misfit}
+use Rattle.grib_base.specs.declared.profile.Profile.{Profile}
+use Rattle.grib_base.specs.declared.profile.Profile.TheVariants.{Stated, Open}
+use Rattle.grib_packing.specs.Misfits.{Target, ToSimple, ToComplex, ToSpatial, ToCoded, Misfit, first_misfit}
 use Rattle.grib_packing.specs.declared.column.Column.{Column}
 use Rattle.grib_packing.specs.declared.written.Packed.{Packed}
 use Rattle.grib_packed.specs.Written.{packed}
@@ -20,9 +22,12 @@ own_form message i = record {
   section7 = part_octets message i 7;
 }
 
--- the packings that are tried, in this order
-abbrev pub targets : List Target
-targets = ToSimple ∷ ToComplex ∷ ToSpatial 1 ∷ ToSpatial 2 ∷ []
+-- The packings that are tried, in this order: those that the profile has. CCSDS packing has blocks of 8, 16, 32 and 64
+-- values, and 128 blocks from one reference to the next.
+abbrev pub targets : Profile → List Target
+targets Stated = ToSimple ∷ ToComplex ∷ ToSpatial 1 ∷ ToSpatial 2 ∷ []
+targets Open =
+    ToSimple ∷ ToComplex ∷ ToSpatial 1 ∷ ToSpatial 2 ∷ ToCoded 8 128 ∷ ToCoded 16 128 ∷ ToCoded 32 128 ∷ ToCoded 64 128 ∷ []
 
 -- a form counts where nothing fails to fit
 abbrev pub unless_misfit : Option Misfit → Packed → Option Packed
@@ -33,12 +38,12 @@ unless_misfit None form = Some form
 abbrev pub form_of : Column → ℕ → Target → Option Packed
 form_of column kind target = unless_misfit (first_misfit target column.points) (packed target column kind)
 
-abbrev pub packed_forms : List ℕ → ℕ → List Packed
-packed_forms message i = filter_map (form_of (column_of message i) (kind_of message i)) targets
+abbrev pub packed_forms : Profile → List ℕ → ℕ → List Packed
+packed_forms profile message i = filter_map (form_of (column_of message i) (kind_of message i)) (targets profile)
 
 -- the forms of field i, its own first
-abbrev pub forms : List ℕ → ℕ → List Packed
-forms message i = own_form message i ∷ packed_forms message i
+abbrev pub forms : Profile → List ℕ → ℕ → List Packed
+forms profile message i = own_form message i ∷ packed_forms profile message i
 
 -- how many octets the sections of a form have
 abbrev pub size_of : Packed → ℕ
@@ -54,17 +59,17 @@ smallest best [] = best
 smallest best (form ∷ later) = smallest (smaller best form) later
 
 -- the form in which field i is written
-abbrev pub least_form : List ℕ → ℕ → Packed
-least_form message i = smallest (own_form message i) (packed_forms message i)
+abbrev pub least_form : Profile → List ℕ → ℕ → Packed
+least_form profile message i = smallest (own_form message i) (packed_forms profile message i)
 
 -- fields count from 1
-abbrev pub least_forms : List ℕ → List Packed
-least_forms message = map (least_form message) (range_with_len 1 (field_count message))
+abbrev pub least_forms : Profile → List ℕ → List Packed
+least_forms profile message = map (least_form profile message) (range_with_len 1 (field_count message))
 
 -- the shorter of a message and another; where they are as long, the message
 abbrev pub shorter : List ℕ → List ℕ → List ℕ
 shorter message other = cond (nat_lt (length other) (length message)) other message
 
 -- the message with these forms, where it is shorter than the message itself
-abbrev pub least : List ℕ → List ℕ
-least message = shorter message (assembled message (least_forms message))
+abbrev pub least : Profile → List ℕ → List ℕ
+least profile message = shorter message (assembled message (least_forms profile message))

@@ -12,28 +12,57 @@ ghost use Rattle.grib_least.specs.Earlier.{or_form};
 ghost use Rattle.grib_least.specs.Least as definitions;
 ghost use Rattle.grib_least.specs.Least.{form_of, least, size_of};
 
-use grib_base::List;
+use grib_base::{List, Profile};
 use grib_packed::laws::{a_packing_is_written, one_packing_is_written};
 use grib_packing::{Column, PackFault, Packed, are_octets};
 use grib_repack::{RepackTarget, pack_field};
 use grib2_message::{AssembleFault, ReadableMessage};
 use std::alloc::{AllocError, Global};
 
+/// All packings, from the last to the first. The stated profile has those from the fifth on.
+const TRIALS: [RepackTarget; 8] = [
+    RepackTarget::Coded {
+        block: 64,
+        interval: 128,
+    },
+    RepackTarget::Coded {
+        block: 32,
+        interval: 128,
+    },
+    RepackTarget::Coded {
+        block: 16,
+        interval: 128,
+    },
+    RepackTarget::Coded {
+        block: 8,
+        interval: 128,
+    },
+    RepackTarget::Spatial(2),
+    RepackTarget::Spatial(1),
+    RepackTarget::Complex,
+    RepackTarget::Simple,
+];
+
 /// The message with each field in the one of these forms that has the fewest octets in Sections 5, 6 and 7,
 /// the earlier of equal ones: its own sections, simple packing, complex packing, complex packing of the spatial
-/// differences of order 1, and of order 2. A packing that cannot represent the values of the field is left out. Where
-/// that message is not shorter, it is the message itself, octet for octet.
+/// differences of order 1, and of order 2, and CCSDS packing in blocks of 8, 16, 32 and 64 values with 128 blocks from
+/// one reference to the next. A packing that the profile does not have, or that cannot represent the values of the
+/// field, is left out. Where that message is not shorter, it is the message itself, octet for octet.
 ///
 /// It holds the message, the chosen forms, and one column and one other form at a time.
 ///
 /// # Errors
 ///
 /// There is no memory.
-pub fn repack_least(alloc: Global, message: &ReadableMessage<'_>) -> Result<Vec<u8>, AllocError>
-    ensures { IfOk result (λ octets. octets.items ≡ least message.now) }
+pub fn repack_least(
+    alloc: Global,
+    message: &ReadableMessage<'_>,
+    profile: Profile,
+) -> Result<Vec<u8>, AllocError>
+    ensures { IfOk result (λ octets. octets.items ≡ least profile message.now) }
 {
     let octets = message.octets();
-    let forms = least_forms(alloc, message)?;
+    let forms = least_forms(alloc, message, profile)?;
     match message.assemble(alloc, &forms) {
         Ok(other) => shorter(alloc, octets, other),
         Err(AssembleFault::TooLong(_)) => octets.to_vec(alloc),
@@ -53,15 +82,19 @@ fn shorter(alloc: Global, message: &[u8], other: Vec<u8>) -> Result<Vec<u8>, All
 }
 
 /// The form in which each field of the message is written.
-fn least_forms(alloc: Global, message: &ReadableMessage<'_>) -> Result<Vec<Packed>, AllocError>
+fn least_forms(
+    alloc: Global,
+    message: &ReadableMessage<'_>,
+    profile: Profile,
+) -> Result<Vec<Packed>, AllocError>
     requires { IsAnyMessage message.now }
-    ensures forms { IfOk result (λ forms. forms.items ≡ definitions.least_forms message.now) }
+    ensures forms { IfOk result (λ forms. forms.items ≡ definitions.least_forms profile message.now) }
     ensures short { IfOk result (λ forms. All IsShort forms.items) }
 {
     let fields = message.fields();
     let mut forms = Vec::with_capacity(alloc, fields as usize)?;
     for before in 0..fields {
-        let form = least_form(alloc, message, before + 1)?;
+        let form = least_form(alloc, message, before + 1, profile)?;
         forms.push(form)?;
     }
     Ok(forms)
@@ -72,52 +105,32 @@ fn least_form(
     alloc: Global,
     message: &ReadableMessage<'_>,
     field: u32,
+    profile: Profile,
 ) -> Result<Packed, AllocError>
     requires message { IsAnyMessage message.now }
     requires first { 1 ≤ field }
     requires last { field ≤ field_count message.now }
-    ensures form { IfOk result (λ form. form ≡ definitions.least_form message.now field) }
+    ensures form { IfOk result (λ form. form ≡ definitions.least_form profile message.now field) }
     ensures short { IfOk result IsShort }
 {
     let column = message.column(alloc, field)?;
     let own = own_form(alloc, message, field)?;
     let limit = size(&own);
-    let best = or_packed(
-        alloc,
-        message,
-        field,
-        &column,
-        RepackTarget::Spatial(2),
-        limit,
-        own,
-    )?;
-    let best = or_packed(
-        alloc,
-        message,
-        field,
-        &column,
-        RepackTarget::Spatial(1),
-        limit,
-        best,
-    )?;
-    let best = or_packed(
-        alloc,
-        message,
-        field,
-        &column,
-        RepackTarget::Complex,
-        limit,
-        best,
-    )?;
-    or_packed(
-        alloc,
-        message,
-        field,
-        &column,
-        RepackTarget::Simple,
-        limit,
-        best,
-    )
+    let mut best = own;
+    for target in trials(profile) {
+        best = or_packed(alloc, message, field, &column, *target, limit, best)?;
+    }
+    Ok(best)
+}
+
+/// The packings that the profile has, from the last to the first.
+fn trials(profile: Profile) -> &'static [RepackTarget]
+    ensures { result.now ≡ earlier.trials profile }
+{
+    match profile {
+        Profile::Stated => &TRIALS[4..],
+        Profile::Open => &TRIALS,
+    }
 }
 
 /// The Sections 5, 6 and 7 that a field has, counted from 1.

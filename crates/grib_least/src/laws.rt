@@ -2,13 +2,13 @@
 
 ghost use Rattle.std.specs.Prelude.{◌≡◌, ℕ, ◌≤◌, ◌<◌, List, None, length, All};
 ghost use Rattle.grib_base.specs.declared.profile.Profile.{Profile};
-ghost use Rattle.grib_packing.specs.Misfits.{Target, first_misfit};
-ghost use Rattle.grib_packing.specs.Written.{IsTarget};
+ghost use Rattle.grib_packing.specs.Misfits.{first_misfit};
 ghost use Rattle.grib2_message.specs.Fields.{field_count, part_octets, column_of, meaning_of};
 ghost use Rattle.grib2_message.specs.Message.{IsMessageUnder, IsReadable};
 ghost use Rattle.grib_repack.specs.Repacked.{packed_field};
-ghost use Rattle.grib_least.specs.Least.{least, least_form, own_form, size_of};
+ghost use Rattle.grib_least.specs.Least.{least, least_form, own_form, size_of, targets};
 
+use grib_ccsds::laws::what_is_packed_in_blocks_reads_back;
 use grib_complex::laws::{
     what_is_packed_by_differences_reads_back, what_is_packed_in_groups_reads_back,
 };
@@ -22,54 +22,57 @@ use grib2_message::laws::{field_holds, what_is_assembled_is_accepted};
 pub fn what_is_least_is_kept()
     ensures accepted { (profile : Profile) (message : List ℕ) → IsMessageUnder profile message → IsReadable message
         → All (λ octet. octet < 256) message
-        → IsMessageUnder profile (least message) }
+        → IsMessageUnder profile (least profile message) }
     ensures fields { (profile : Profile) (message : List ℕ) → IsMessageUnder profile message → IsReadable message
         → All (λ octet. octet < 256) message
-        → field_count (least message) ≡ field_count message }
+        → field_count (least profile message) ≡ field_count message }
     ensures columns { (profile : Profile) (message : List ℕ) → IsMessageUnder profile message → IsReadable message
         → All (λ octet. octet < 256) message
         → (i : ℕ) → 1 ≤ i → i ≤ field_count message
-        → column_of (least message) i ≡ column_of message i }
+        → column_of (least profile message) i ≡ column_of message i }
     ensures meanings { (profile : Profile) (message : List ℕ) → IsMessageUnder profile message → IsReadable message
         → All (λ octet. octet < 256) message
         → (i : ℕ) → 1 ≤ i → i ≤ field_count message
-        → meaning_of (least message) i ≡ meaning_of message i }
+        → meaning_of (least profile message) i ≡ meaning_of message i }
     ensures kept { (profile : Profile) (message : List ℕ) → IsMessageUnder profile message → IsReadable message
         → All (λ octet. octet < 256) message
-        → (i k : ℕ) → k ≤ 4 → part_octets (least message) i k ≡ part_octets message i k }
+        → (i k : ℕ) → k ≤ 4 → part_octets (least profile message) i k ≡ part_octets message i k }
 {
     a_packing_is_written();
     what_is_packed_simply_reads_back();
     what_is_packed_in_groups_reads_back();
     what_is_packed_by_differences_reads_back();
+    what_is_packed_in_blocks_reads_back();
     field_holds();
     what_is_assembled_is_accepted();
 }
 
 /// No message grows.
 pub fn nothing_grows()
-    ensures { (message : List ℕ) → length (least message) ≤ length message }
+    ensures { (profile : Profile) (message : List ℕ) → length (least profile message) ≤ length message }
 {}
 
-/// No form of a field has fewer octets than the one in which it is written.
+/// No form of a field has fewer octets than the one in which it is written: not its own, and none of a packing that the
+/// profile has.
 pub fn no_form_is_smaller()
-    ensures own { (message : List ℕ) (i : ℕ)
-        → size_of (least_form message i) ≤ size_of (own_form message i) }
-    ensures packed { (message : List ℕ) (i : ℕ) (target : Target) → IsTarget target
-        → first_misfit target (column_of message i).points ≡ None
-        → size_of (least_form message i) ≤ size_of (packed_field target message i) }
+    ensures own { (profile : Profile) (message : List ℕ) (i : ℕ)
+        → size_of (least_form profile message i) ≤ size_of (own_form message i) }
+    ensures packed { (profile : Profile) (message : List ℕ) (i : ℕ)
+        → All (λ target. first_misfit target (column_of message i).points ≡ None
+        → size_of (least_form profile message i) ≤ size_of (packed_field target message i)) (targets profile) }
 {}
 
 /// A message in the fewest octets stays as it is.
 pub fn least_of_least()
     ensures { (profile : Profile) (message : List ℕ) → IsMessageUnder profile message → IsReadable message
         → All (λ octet. octet < 256) message
-        → least (least message) ≡ least message }
+        → least profile (least profile message) ≡ least profile message }
 {
     a_packing_is_written();
     what_is_packed_simply_reads_back();
     what_is_packed_in_groups_reads_back();
     what_is_packed_by_differences_reads_back();
+    what_is_packed_in_blocks_reads_back();
     field_holds();
     what_is_assembled_is_accepted();
 }

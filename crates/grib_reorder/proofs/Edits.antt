@@ -21,7 +21,7 @@ use Rattle.grib_reorder.specs.declared.edit.GridEdit.{GridEdit}
 use Rattle.grib_reorder.specs.Fields.{IsColumnEdited, IsFieldEdited}
 use Rattle.grib_reorder.specs.Rescanned.{Stands, OfGrid, OfColumn, cause_of, new_column, own_target, grid_misfit, column_misfit}
 use Rattle.grib_reorder.proofs.Fields.{none_after}
-use Rattle.grib_reorder.proofs.Packs.{none_simple}
+use Rattle.grib_reorder.proofs.Packs.{none_secondary}
 use Rattle.grib_reorder.proofs.Points.{none_new, new_packable}
 use Rattle.grib_reorder.proofs.Grids.{stated_rows}
 
@@ -43,9 +43,9 @@ module _ (edit : GridEdit) (message : List ℕ) (i : ℕ) where
         is = is;
         may_be_packed =
             subst MayBePacked (sym is) (new_packable edit (part_octets message i 3) (column_of message i) stands rows here (subst MayBePacked old_is may));
-        simple = λ simple.
+        no_secondary = λ bitmap.
             ap (λ (column : Column). list_any is_missing2 column.points) is
-            ∙ none_new is_missing2 refl edit (part_octets message i 3) (column_of message i) (none_simple message i simple);
+            ∙ none_new is_missing2 refl edit (part_octets message i 3) (column_of message i) (none_secondary message i bitmap);
         rows = rows;
       }
 

@@ -10,22 +10,23 @@ use Rattle.grib_bitmap.specs.Mask.{mask_of}
 use Rattle.grib_packing.specs.declared.column.Column.{Column}
 use Rattle.grib_packing.specs.Entries.{column_from}
 use Rattle.grib_packing.specs.Misfits.{first_misfit}
+use Rattle.grib_packing.specs.Packing.{packing_template}
 use Rattle.grib_packing.specs.Packed.{Packed as HasPacked}
 use Rattle.grib_packing.specs.declared.written.Packed.{Packed}
 use Rattle.grib_packing.specs.Laws.{UnpackTo}
 use Rattle.grib_packed.specs.Written.{HasWords}
 use Rattle.grib2_message.specs.Fields.{field_count, part_octets, field_mask, column_of}
 use Rattle.grib2_message.specs.Message.{IsMessageUnder, FieldPassesUnder}
-use Rattle.grib2_message.specs.Assembled.{PartsPass, MayBeAssembledWithUnder}
+use Rattle.grib2_message.specs.Assembled.{PartsPassUnder, MayBeAssembledWithUnder}
 use Rattle.grib_repack.specs.Repacked.{kind_of}
 use Rattle.grib_repack.proofs.Columns.{may_be_packed, has_words, kind_small}
 use Rattle.grib_repack.proofs.Kept.{IsWritten, Unpacks, reads}
-use Rattle.grib_repack.proofs.Sections.{are_written}
+use Rattle.grib_repack.proofs.Sections.{are_written, template_stands}
 use Rattle.grib_reorder.specs.declared.edit.GridEdit.{GridEdit}
 use Rattle.grib_reorder.specs.Rescanned.{TooLong, MayBeEdited, cause_of, section_of, new_column, own_target, edited_column, edited_field, edited_fields, edited, grid_misfit, column_misfit, misfit_among, length_misfit}
 use Rattle.grib_reorder.proofs.Fields.{no_grid, no_column, none_later, each_fits}
 use Rattle.grib_reorder.proofs.Grids.{stated_rows, new_grid, new_points}
-use Rattle.grib_reorder.proofs.Packs.{packs_as}
+use Rattle.grib_reorder.proofs.Packs.{packs_as, accepted_alike}
 use Rattle.grib_reorder.proofs.Points.{new_packable, same_reference, same_e, same_d}
 
 not_long : (l : ℕ) → length_misfit l ≡ None → l ≤ 268435456
@@ -86,6 +87,7 @@ module _ (written : IsWritten) (unpack : Unpacks) (profile : Profile)
         HasPacked (own_target (part_octets message i 5)) (edited_column edit message i) (kind_of message i) p.section5 p.section6 p.section7)
     pub unpacked : (let p = edited_field edit message i in UnpackTo (edited_column edit message i) p.section5 p.section6 p.section7)
     pub as_long : length (edited_column edit message i).points ≡ grid_points (section_of edit (part_octets message i 3))
+    pub template : packing_template (edited_field edit message i).section5 ≡ packing_template (part_octets message i 5)
 
   field : (i : ℕ) → 1 ≤ i → i ≤ field_count message → Field i
   field i low high =
@@ -96,29 +98,31 @@ module _ (written : IsWritten) (unpack : Unpacks) (profile : Profile)
       let p = edited_field edit message i in
       let here = reads profile message i (passes message i may.accepted low high) (may.readable i low high) in
       let long = masks message i may.accepted may.are_octets low high in
-      let stands = (packs_as (part_octets message i 5) (grid_points s3) here.packing).target in
+      let own = packs_as (part_octets message i 5) (grid_points s3) here.packing in
       let free = uncaused i low high in
       let rows = stated_rows edit Open s3 here.grid free in
       let packable = new_packable edit s3 (column_of message i) may.stands rows free (may_be_packed message i here long) in
       let none : first_misfit target column.points ≡ None = no_column i (first_misfit target column.points) (field_fits i low high).1 in
       let has : HasPacked target column kind p.section5 p.section6 p.section7 =
-      written target column kind packable (new_words edit s3 (column_of message i) (has_words message i may.are_octets)) stands (kind_small message i may.are_octets) none in
+      written target column kind packable (new_words edit s3 (column_of message i) (has_words message i may.are_octets)) own.target (kind_small message i may.are_octets) none in
       record {
         has = has;
-        unpacked = unpack target stands column kind p.section5 p.section6 p.section7 packable none has;
+        unpacked = unpack target own.target column kind p.section5 p.section6 p.section7 packable none has;
         as_long = new_points edit s3 (column_of message i) may.stands rows free;
+        template = template_stands target column kind p.section5 p.section6 p.section7 has ∙ own.template;
       }
 
-  part_passes : (i : ℕ) → 1 ≤ i → i ≤ field_count message → PartsPass (grid_points (section_of edit (part_octets message i 3))) (edited_field edit message i)
+  part_passes : (i : ℕ) → 1 ≤ i → i ≤ field_count message → PartsPassUnder profile (grid_points (section_of edit (part_octets message i 3))) (edited_field edit message i)
   part_passes i low high =
       let f = field i low high in
       let p = edited_field edit message i in
       let w = are_written (own_target (part_octets message i 5)) (edited_column edit message i) (kind_of message i) p.section5 p.section6 p.section7 f.has in
-      subst (λ (n : ℕ). PartsPass n p) f.as_long (record {
+      subst (λ (n : ℕ). PartsPassUnder profile n p) f.as_long (record {
         itself_5 = w.itself_5;
         itself_6 = w.itself_6;
         itself_7 = w.itself_7;
-        packing = f.unpacked.representation;
+        packing = accepted_alike profile (part_octets message i 5) p.section5 (grid_points (part_octets message i 3)) (length (edited_column edit message i).points) f.template
+            (passes message i may.accepted low high).packing f.unpacked.representation;
         alone = w.alone;
         bitmap = f.unpacked.bitmap;
         values = f.unpacked.values;
@@ -131,7 +135,7 @@ module _ (written : IsWritten) (unpack : Unpacks) (profile : Profile)
     grids = λ i low high grid. new_grid profile edit (part_octets message i 3) may.stands (uncaused i low high) grid;
     pass = λ k part e.
         let at = part_is edit message k part e in
-        subst (λ (p : Packed). PartsPass (grid_points (section_of edit (part_octets message (k + 1) 3))) p) at.1
+        subst (λ (p : Packed). PartsPassUnder profile (grid_points (section_of edit (part_octets message (k + 1) 3))) p) at.1
         (part_passes (k + 1) (omega arith) (omega (arith, at.0)));
     most = not_long (length (edited edit message)) fits.1;
   }

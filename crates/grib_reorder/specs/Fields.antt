@@ -1,5 +1,5 @@
 -- What is known of fields that are edited.
-use Rattle.std.specs.Prelude.{◌≡◌, ℕ, ◌≤◌, false, None, List, map, All}
+use Rattle.std.specs.Prelude.{◌≡◌, ◌⊎◌, ℕ, ◌≤◌, false, None, List, map, All}
 use Rattle.std.specs.List.{range_with_len, list_any}
 use Rattle.grib_base.specs.Rows.{first_fault}
 use Rattle.grib2_grids.specs.Grid.{grid_rows}
@@ -13,12 +13,16 @@ use Rattle.grib2_message.specs.Fields.{part_octets}
 use Rattle.grib_reorder.specs.declared.edit.GridEdit.{GridEdit}
 use Rattle.grib_reorder.specs.Rescanned.{grid_misfit, field_misfit, misfit_among, edited_column, edited_field}
 
--- the new column of field i; simple packing has no secondary missing points
+-- simple packing and CCSDS packing tell the missing points by a bitmap alone, so that none is secondary missing
+abbrev pub IsBitmapTemplate : ℕ → Type 0
+IsBitmapTemplate template = (template ≡ 0) ⊎ (template ≡ 42)
+
+-- the new column of field i
 pub record IsColumnEdited (edit : GridEdit) (message : List ℕ) (i : ℕ) (column : Column) : Type 0 where
   pub uncaused : grid_misfit edit message i ≡ None
   pub is : column ≡ edited_column edit message i
   pub may_be_packed : MayBePacked column
-  pub simple : packing_template (part_octets message i 5) ≡ 0 → list_any is_missing2 column.points ≡ false
+  pub no_secondary : IsBitmapTemplate (packing_template (part_octets message i 5)) → list_any is_missing2 column.points ≡ false
   pub rows : first_fault (grid_rows (part_octets message i 3)) ≡ None
 
 -- Sections 5, 6 and 7 of field i

@@ -6,7 +6,8 @@ use Rattle.std.specs.List.{range_with_len}
 use Rattle.grib_bits.specs.Octets.{octets}
 use Rattle.grib_base.specs.declared.profile.Profile.{Profile}
 use Rattle.grib_packing.specs.declared.column.Column.{Column}
-use Rattle.grib_packing.specs.Misfits.{Target, ToSimple, ToComplex, ToSpatial, Misfit, first_misfit}
+use Rattle.grib_packing.specs.Coded.{is_coded}
+use Rattle.grib_packing.specs.Misfits.{Target, ToSimple, ToComplex, ToSpatial, ToCoded, Misfit, first_misfit}
 use Rattle.grib_packing.specs.Packing.{packing_template}
 use Rattle.grib_packing.specs.declared.written.Packed.{Packed}
 use Rattle.grib_packed.specs.Written.{packed}
@@ -42,11 +43,16 @@ abbrev pub Stands : GridEdit → Type 0
 Stands Rescan = Unit {0}
 Stands (Crop area) = (area.i0 ≤ area.i1) × (area.j0 ≤ area.j1)
 
+-- CCSDS packing has the blocks of octets 23 to 25 of Section 5. Where numbers have no bits, octets 22 to 25 are not read,
+-- whatever they say: blocks of 32 values are written, with a reference each 128 blocks.
+abbrev pub own_blocks : List ℕ → Target
+own_blocks s5 = cond (is_coded s5) (ToCoded (octets s5 23 23) (octets s5 24 25)) (ToCoded 32 128)
+
 -- a field is packed as its Section 5 says: by its template and, for differences, their order, octet 48
 abbrev pub own_target : List ℕ → Target
 own_target s5 =
     let template = packing_template s5 in
-    cond (template == 0) ToSimple (cond (template == 2) ToComplex (ToSpatial (octets s5 48 48)))
+    cond (template == 0) ToSimple (cond (template == 2) ToComplex (cond (template == 42) (own_blocks s5) (ToSpatial (octets s5 48 48))))
 
 -- the new column of field i, and its Sections 5, 6 and 7; octet 21 of Section 5 stays
 abbrev pub edited_column : GridEdit → List ℕ → ℕ → Column

@@ -12,6 +12,7 @@ ghost use Rattle.grib_reorder.specs.declared.edit.GridEdit.{GridEdit as Edit};
 ghost use Rattle.grib_reorder.specs.declared.edit.GridEdit.TheVariants as edits;
 ghost use Rattle.grib_reorder.specs.Rescanned.{section_of, edited_column, edited, MayBeEdited};
 
+use grib_ccsds::laws::what_is_packed_in_blocks_reads_back;
 use grib_complex::laws::{
     what_is_packed_by_differences_reads_back, what_is_packed_in_groups_reads_back,
 };
@@ -40,6 +41,7 @@ pub fn what_is_edited_is_accepted()
     what_is_packed_simply_reads_back();
     what_is_packed_in_groups_reads_back();
     what_is_packed_by_differences_reads_back();
+    what_is_packed_in_blocks_reads_back();
     field_holds();
     what_is_assembled_with_other_grids_is_accepted();
 }

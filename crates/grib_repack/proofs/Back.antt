@@ -8,18 +8,13 @@ use Rattle.grib_bitmap.specs.Mask.{bitmap_indicator, mask_of}
 use Rattle.grib_packing.specs.declared.column.Column.{Column}
 use Rattle.grib_packing.specs.Entries.{data_fault, packing_fault}
 use Rattle.grib_packing.specs.Laws.{UnpackTo}
-use Rattle.grib_packing.specs.Misfits.{Target, ToSimple, ToComplex, ToSpatial, template_of}
+use Rattle.grib_packing.specs.Misfits.{Target, template_of}
 use Rattle.grib_packing.specs.Packed.{Packed as HasPacked}
 use Rattle.grib_packing.specs.Packing.{packing_template, value_count}
 use Rattle.grib_packing.specs.Unpacked.{IsUnpacked, MayBeUnpacked}
 use Rattle.grib_packing.specs.Written.{MayBePacked}
 use Rattle.grib2_message.proofs.Masks.{long_alone, present_of}
-use Rattle.grib_repack.proofs.Sections.{are_written}
-
-template_stands : (target : Target) (column : Column) (kind : ℕ) (s5 s6 s7 : List ℕ) → HasPacked target column kind s5 s6 s7 → packing_template s5 ≡ template_of target
-template_stands ToSimple column kind s5 s6 s7 has = has.numbers.template_stands
-template_stands ToComplex column kind s5 s6 s7 has = has.numbers.template_stands
-template_stands (ToSpatial order) column kind s5 s6 s7 has = has.numbers.template_stands
+use Rattle.grib_repack.proofs.Sections.{are_written, template_stands}
 
 own_or_none : (i : ℕ) → (i ≡ 0) ⊎ (i ≡ 255) → (i < 256) × (i ≢ 254)
 own_or_none i (inl own) = (omega (arith, own), λ e. omega (arith, own, e))

@@ -28,7 +28,7 @@ packable message i column is passes some few =
     subst MayBePacked (sym is) (record {
       some = omega (arith, same, some);
       few = omega (arith, same, few);
-      within = any_of_none is_out_of_range (points_with_mask mask (entries_of s5 s7)) (none_with_mask mask (entries_of s5 s7) (entries_within s5 s7 _ packing passes.values));
+      within = any_of_none is_out_of_range (points_with_mask mask (entries_of s5 s7)) (none_with_mask mask (entries_of s5 s7) (entries_within s5 s7 _ passes.packing passes.values));
       finite = packing.finite;
     })
 

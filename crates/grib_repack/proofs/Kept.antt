@@ -9,19 +9,19 @@ use Rattle.grib2_grids.specs.Grid.{grid_points}
 use Rattle.grib_bitmap.specs.Mask.{mask_of}
 use Rattle.grib_packing.specs.declared.column.Column.{Column}
 use Rattle.grib_packing.specs.Entries.{column_from}
-use Rattle.grib_packing.specs.Misfits.{Target, ToSimple, ToComplex, ToSpatial, Misfit, first_misfit}
+use Rattle.grib_packing.specs.Misfits.{Target, ToSimple, ToComplex, ToSpatial, ToCoded, Misfit, first_misfit}
 use Rattle.grib_packing.specs.Packed.{Packed as HasPacked}
 use Rattle.grib_packing.specs.declared.written.Packed.{Packed}
 use Rattle.grib_packing.specs.Laws.{UnpackTo}
-use Rattle.grib_packing.specs.Written.{MayBePacked, IsTarget}
+use Rattle.grib_packing.specs.Written.{IsBlocks, MayBePacked, IsTarget}
 use Rattle.grib_packed.specs.Written.{HasWords, packed}
 use Rattle.grib2_message.specs.Fields.{field_count, part_octets, field_mask, column_of}
 use Rattle.grib2_message.specs.Message.{IsMessageUnder, FieldPassesUnder, FieldReads, HasValues}
-use Rattle.grib2_message.specs.Assembled.{PartsPass, MayBeAssembledUnder}
+use Rattle.grib2_message.specs.Assembled.{PartsPassUnder, MayBeAssembledUnder}
 use Rattle.grib2_message.proofs.Opened.{field_opened, field_read}
 use Rattle.grib_repack.specs.Repacked.{OutputTooLong, MayBeRepacked, kind_of, packed_field, packed_fields, repacked, in_field, misfit_among, length_misfit}
 use Rattle.grib_repack.proofs.Fields.{none_later, each_fits}
-use Rattle.grib_repack.proofs.Sections.{are_written}
+use Rattle.grib_repack.proofs.Sections.{are_written, accepted_under}
 use Rattle.grib_repack.proofs.Columns.{column_long, may_be_packed, has_words, kind_small}
 
 no_misfit : (i : ℕ) (misfit : Option Misfit) → option_map (in_field i) misfit ≡ None → misfit ≡ None
@@ -45,10 +45,13 @@ Unpacks = (target : Target) → IsTarget target → UnpacksAt target
 pub unpacks : UnpacksAt ToSimple → UnpacksAt ToComplex
     → ((order kind : ℕ) (column : Column) (s5 s6 s7 : List ℕ) → (order ≡ 1) ⊎ (order ≡ 2) → MayBePacked column → first_misfit (ToSpatial order) column.points ≡ None
     → HasPacked (ToSpatial order) column kind s5 s6 s7 → UnpackTo column s5 s6 s7)
+    → ((block interval : ℕ) (column : Column) (kind : ℕ) (s5 s6 s7 : List ℕ) → MayBePacked column → IsBlocks block interval
+    → first_misfit (ToCoded block interval) column.points ≡ None → HasPacked (ToCoded block interval) column kind s5 s6 s7 → UnpackTo column s5 s6 s7)
     → Unpacks
-unpacks simply grouped differing ToSimple is column kind s5 s6 s7 may fits has = simply column kind s5 s6 s7 may fits has
-unpacks simply grouped differing ToComplex is column kind s5 s6 s7 may fits has = grouped column kind s5 s6 s7 may fits has
-unpacks simply grouped differing (ToSpatial order) is column kind s5 s6 s7 may fits has = differing order kind column s5 s6 s7 is may fits has
+unpacks simply grouped differing coded ToSimple is column kind s5 s6 s7 may fits has = simply column kind s5 s6 s7 may fits has
+unpacks simply grouped differing coded ToComplex is column kind s5 s6 s7 may fits has = grouped column kind s5 s6 s7 may fits has
+unpacks simply grouped differing coded (ToSpatial order) is column kind s5 s6 s7 may fits has = differing order kind column s5 s6 s7 is may fits has
+unpacks simply grouped differing coded (ToCoded block interval) is column kind s5 s6 s7 may fits has = coded block interval column kind s5 s6 s7 may is fits has
 
 abbrev pub IsWritten : Type 0
 IsWritten =
@@ -112,16 +115,17 @@ module _ (written : IsWritten) (unpack : Unpacks) (profile : Profile)
         as_long = column_long message i here long;
       }
 
-  part_passes : (i : ℕ) → 1 ≤ i → i ≤ field_count message → PartsPass (grid_points (part_octets message i 3)) (packed_field target message i)
+  part_passes : (i : ℕ) → 1 ≤ i → i ≤ field_count message → PartsPassUnder profile (grid_points (part_octets message i 3)) (packed_field target message i)
   part_passes i low high =
       let f = field i low high in
       let p = packed_field target message i in
       let w = are_written target (column_of message i) (kind_of message i) p.section5 p.section6 p.section7 f.has in
-      subst (λ (n : ℕ). PartsPass n p) f.as_long (record {
+      subst (λ (n : ℕ). PartsPassUnder profile n p) f.as_long (record {
         itself_5 = w.itself_5;
         itself_6 = w.itself_6;
         itself_7 = w.itself_7;
-        packing = f.unpacked.representation;
+        packing = accepted_under profile target (column_of message i) (kind_of message i) p.section5 p.section6 p.section7 (length (column_of message i).points) may.packing f.has
+            f.unpacked.representation;
         alone = w.alone;
         bitmap = f.unpacked.bitmap;
         values = f.unpacked.values;
@@ -133,7 +137,7 @@ module _ (written : IsWritten) (unpack : Unpacks) (profile : Profile)
     one_each = length-map-range_with_len (packed_field target message) 1 (field_count message);
     pass = λ k part e.
         let at = part_is target message k part e in
-        subst (λ (p : Packed). PartsPass (grid_points (part_octets message (k + 1) 3)) p) at.1
+        subst (λ (p : Packed). PartsPassUnder profile (grid_points (part_octets message (k + 1) 3)) p) at.1
         (part_passes (k + 1) (omega arith) (omega (arith, at.0)));
     most = not_long (length (repacked target message)) fits.1;
   }

@@ -1,5 +1,6 @@
 pub mod Fields
 pub mod Sections
+mod InBlocks
 pub mod Ranges
 pub mod Octets
 pub mod Columns

@@ -13,7 +13,7 @@ use Rattle.grib_base.proofs.Passing.{carried}
 use Rattle.grib_packing.specs.declared.written.PackFault.TheVariants.{Memory}
 use Rattle.grib_packing.specs.Written.{IsPackFault, IsPacked}
 use Rattle.grib_packed.specs.Written.{packed}
-use Rattle.grib_complex.specs.Below.{IsBelowOrNone, IsPackedBelow}
+use Rattle.grib_packing.specs.Below.{IsBelowOrNone, IsPackedBelow}
 use Rattle.grib2_message.specs.Fields.{column_of}
 use Rattle.grib2_message.specs.Assembled.{IsShort}
 use Rattle.grib_repack.specs.Repacked.{RepackMisfit, kind_of, packed_field, field_misfit, in_field}

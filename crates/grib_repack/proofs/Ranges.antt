@@ -14,15 +14,17 @@ use Rattle.grib_packing.specs.declared.column.Point.TheVariants.{Scaled}
 use Rattle.grib_packing.specs.declared.group.Group.{Group}
 use Rattle.grib_packing.specs.declared.layout.Layout.{Layout}
 use Rattle.grib_packing.specs.Column.{points_with_mask}
+use Rattle.grib_packing.specs.Coded.{coded_entries, coded_numbers, is_coded, point_of}
 use Rattle.grib_packing.specs.Complex.{layout_of, descriptor_octets}
 use Rattle.grib_packing.specs.Differences.{undone}
-use Rattle.grib_packing.specs.Entries.{data_fault, complex_data_fault, complex_entries, group_data_fault, group_data_rows, group_entries, range_rows, entries_of, codes_of, descriptors, refilled, present_code, has_no_groups, is_out_of_range}
+use Rattle.grib_packing.specs.Entries.{packing_fault, data_fault, complex_data_fault, complex_entries, group_data_fault, group_data_rows, group_entries, range_rows, entries_of, codes_of, descriptors, refilled, present_code, has_no_groups, is_out_of_range}
 use Rattle.grib_packing.specs.Groups.{code_of, codes_from, marked, groups_from, groups, references, widths, lengths, list_octets, list_rows}
 use Rattle.grib_packing.specs.Packing.{packing_template, bit_width, value_count}
-use Rattle.grib_packing.proofs.Packings.{IsComplexTemplate, PackingPasses, most-simple, most-complex, data_fault-complex, entries_of-simple, entries_of-complex}
+use Rattle.grib_packing.proofs.Packings.{IsComplexTemplate, PackingPasses, packing_passes, most-simple, most-complex, data_fault-complex, entries_of-simple, entries_of-complex, entries_of-coded}
 use Rattle.grib_simple.proofs.Fitting.{parts_false}
 use Rattle.grib_simple.proofs.Seen.{first_place-any}
 use Rattle.grib2_message.proofs.Passed.{passes_from_none}
+use Rattle.grib_repack.proofs.InBlocks.{blocks_within}
 
 -- ---- lists of points
 
@@ -158,7 +160,10 @@ second_true : (a b : Bool) → (a && b) ≡ false → a ≡ true → b ≡ false
 second_true true b e on = e
 second_true false b e on = absurd (cc)
 
-module _ (s5 s7 : List ℕ) (points : ℕ) (packing : PackingPasses s5 points) (values : data_fault s5 s7 ≡ None) where
+module _ (s5 s7 : List ℕ) (points : ℕ) (accepted : packing_fault s5 points ≡ None) (values : data_fault s5 s7 ≡ None) where
+  packing : PackingPasses s5 points
+  packing = packing_passes s5 points accepted
+
   simple_within : packing_template s5 ≡ 0 → NoneOf is_out_of_range (entries_of s5 s7)
   simple_within simple =
       let few : bit_width s5 ≤ 48 = omega (arith, packing.narrow, most-simple (packing_template s5) simple) in
@@ -207,8 +212,20 @@ module _ (s5 s7 : List ℕ) (points : ℕ) (packing : PackingPasses s5 points) (
           (groups_within some)
     ]
 
+  -- in blocks
+  coded_within : packing_template s5 ≡ 42 → NoneOf is_out_of_range (coded_entries s5 s7)
+  coded_within coded = elim (true_or_false (is_coded s5)) [
+    | inl some ↦
+        subst (λ (b : Bool). NoneOf is_out_of_range (choose b (λ _. map point_of (coded_numbers s5 s7)) (λ _. replicate (value_count s5) (point_of 0)))) (sym some)
+        (blocks_within s5 s7 points coded accepted values some)
+    | inr none ↦
+        subst (λ (b : Bool). NoneOf is_out_of_range (choose b (λ _. map point_of (coded_numbers s5 s7)) (λ _. replicate (value_count s5) (point_of 0)))) (sym none)
+        (zeros_within (value_count s5))
+  ]
+
   pub entries_within : NoneOf is_out_of_range (entries_of s5 s7)
   entries_within = elim packing.template [
     | inl simple ↦ simple_within simple
-    | inr complex ↦ subst (λ (ps : List Point). NoneOf is_out_of_range ps) (sym (entries_of-complex s5 s7 complex)) (complex_within complex)
+    | inr (inl complex) ↦ subst (λ (ps : List Point). NoneOf is_out_of_range ps) (sym (entries_of-complex s5 s7 complex)) (complex_within complex)
+    | inr (inr coded) ↦ subst (λ (ps : List Point). NoneOf is_out_of_range ps) (sym (entries_of-coded s5 s7 coded)) (coded_within coded)
   ]

@@ -1,5 +1,5 @@
 -- Lemmas on the sections that a packing writes.
-use Rattle.std.proofs.Common.{◌≡◌, ◌⊎◌, ℕ, ◌+◌, ◌*◌, ◌^◌, ◌<◌, ◌≤◌, Bool, true, false, cond, List, [], ◌∷◌, ◌++◌, length, take, drop, replicate, append_assoc, All, inl, inr, refl, sym, ap, ◌∙◌, arith, subst, pow_mono}
+use Rattle.std.proofs.Common.{◌≡◌, ◌⊎◌, ℕ, ◌+◌, ◌*◌, ◌^◌, ◌<◌, ◌≤◌, Bool, true, false, cond, None, List, [], ◌∷◌, ◌++◌, length, take, drop, replicate, append_assoc, All, inl, inr, refl, sym, ap, ◌∙◌, arith, subst, pow_mono}
 use Rattle.std.specs.List.{list_any}
 use Rattle.std.proofs.lemmas.List.{length-take}
 use Rattle.std.proofs.lemmas.List.Elements.{All-nil, All-cons, All-take, All-drop}
@@ -10,9 +10,15 @@ use Rattle.grib_bits.proofs.OctetBits.{length-bits, num_on-bits}
 use Rattle.grib_bitmap.specs.Mask.{bitmap_indicator}
 use Rattle.grib_packing.specs.declared.column.Column.{Column}
 use Rattle.grib_packing.specs.declared.column.Point.{Point}
-use Rattle.grib_packing.specs.Misfits.{Target, ToSimple, ToComplex, ToSpatial, is_missing}
-use Rattle.grib_packing.specs.Packed.{HasContents, IsBitmap, IsSimple, IsComplex, IsSpatial, padded, no_bitmap_section, present_bits, Packed as HasPacked}
+use Rattle.grib_packing.specs.Misfits.{Target, ToSimple, ToComplex, ToSpatial, ToCoded, is_missing, template_of}
+use Rattle.grib_packing.specs.Packed.{HasContents, IsBitmap, IsSimple, IsComplex, IsSpatial, IsCoded, padded, no_bitmap_section, present_bits, Packed as HasPacked}
 use Rattle.grib_bits.specs.Written.{padding}
+use Rattle.grib_base.specs.declared.profile.Profile.{Profile}
+use Rattle.grib_base.specs.declared.profile.Profile.TheVariants.{Stated, Open}
+use Rattle.grib_packing.specs.Entries.{is_stated_packing, packing_fault, packing_fault_under, packing_of}
+use Rattle.grib_packing.specs.Packing.{packing_template}
+use Rattle.grib_packing.proofs.OpaquePackings.{accepted_open, accepted_stated}
+use Rattle.grib_repack.specs.Repacked.{HasPacking}
 use Rattle.grib_packing.proofs.Left.{padding-behind}
 use Rattle.grib_packing.proofs.Sections.{AreOctets-all, front_is}
 
@@ -94,7 +100,41 @@ spatial_written order column kind s5 s6 s7 h = record {
   short_7 = short_itself 7 s7 h.values.itself h.values.are_octets;
 }
 
+coded_written : (block interval : ℕ) (column : Column) (kind : ℕ) (s5 s6 s7 : List ℕ) → IsCoded block interval column kind s5 s6 s7 → AreWritten s5 s6 s7
+coded_written block interval column kind s5 s6 s7 h = record {
+  itself_5 = h.numbers.itself;
+  itself_6 = h.bitmap.itself;
+  itself_7 = h.values.itself;
+  alone = bitmap_alone s6 column.points h.bitmap;
+  short_5 = short_itself 5 s5 h.numbers.itself h.numbers.are_octets;
+  short_6 = short_itself 6 s6 h.bitmap.itself h.bitmap.are_octets;
+  short_7 = short_itself 7 s7 h.values.itself h.values.are_octets;
+}
+
 pub are_written : (target : Target) (column : Column) (kind : ℕ) (s5 s6 s7 : List ℕ) → HasPacked target column kind s5 s6 s7 → AreWritten s5 s6 s7
 are_written ToSimple column kind s5 s6 s7 h = simple_written column kind s5 s6 s7 h
 are_written ToComplex column kind s5 s6 s7 h = complex_written column kind s5 s6 s7 h
 are_written (ToSpatial order) column kind s5 s6 s7 h = spatial_written order column kind s5 s6 s7 h
+are_written (ToCoded block interval) column kind s5 s6 s7 h = coded_written block interval column kind s5 s6 s7 h
+
+-- ---- their packing
+
+pub template_stands : (target : Target) (column : Column) (kind : ℕ) (s5 s6 s7 : List ℕ) → HasPacked target column kind s5 s6 s7 → packing_template s5 ≡ template_of target
+template_stands ToSimple column kind s5 s6 s7 has = has.numbers.template_stands
+template_stands ToComplex column kind s5 s6 s7 has = has.numbers.template_stands
+template_stands (ToSpatial order) column kind s5 s6 s7 has = has.numbers.template_stands
+template_stands (ToCoded block interval) column kind s5 s6 s7 has = has.numbers.template_stands
+
+stated_target : (target : Target) → HasPacking Stated target → (packing_of (template_of target)).stated ≡ true
+stated_target ToSimple has = refl
+stated_target ToComplex has = refl
+stated_target (ToSpatial order) has = refl
+stated_target (ToCoded block interval) has = absurd has
+
+-- a Section 5 that no row refuses is accepted by a profile that has its packing
+pub accepted_under : (profile : Profile) (target : Target) (column : Column) (kind : ℕ) (s5 s6 s7 : List ℕ) (points : ℕ) → HasPacking profile target
+    → HasPacked target column kind s5 s6 s7 → packing_fault s5 points ≡ None → packing_fault_under profile s5 points ≡ None
+accepted_under Open target column kind s5 s6 s7 points own has none = accepted_open s5 points none
+accepted_under Stated target column kind s5 s6 s7 points own has none =
+    let stated : is_stated_packing s5 ≡ true = ap (λ (t : ℕ). (packing_of t).stated) (template_stands target column kind s5 s6 s7 has) ∙ stated_target target own in
+    accepted_stated Stated s5 points stated none

@@ -4,9 +4,10 @@
 use Rattle.std.specs.Prelude.{◌≡◌, ℕ, ◌<◌, cond, Option, Some, None, List, [], ◌∷◌, length, map, nat_lt, option_map, All}
 use Rattle.std.specs.List.{range_with_len}
 use Rattle.grib_base.specs.declared.profile.Profile.{Profile}
+use Rattle.grib_base.specs.declared.profile.Profile.TheVariants.{Stated, Open}
 use Rattle.grib_bits.specs.Octets.{octets}
 use Rattle.grib_packing.specs.Misfits as packing
-use Rattle.grib_packing.specs.Misfits.{Target, Misfit, first_misfit}
+use Rattle.grib_packing.specs.Misfits.{Target, ToSimple, ToComplex, ToSpatial, ToCoded, Misfit, first_misfit}
 use Rattle.grib_packing.specs.declared.written.Packed.{Packed}
 use Rattle.grib_packing.specs.Written.{IsTarget}
 use Rattle.grib_packed.specs.Written.{packed}
@@ -66,10 +67,20 @@ repack_misfit target message =
     or_later (misfit_among target message (range_with_len 1 (field_count message)))
     (λ _. length_misfit (length (repacked target message)))
 
--- a message that a profile accepts, whose values can be read and of which nothing fails to fit
+-- whether a profile has the packing of a target: the stated one has no CCSDS packing
+abbrev pub HasPacking : Profile → Target → Type 0
+HasPacking Open target = Unit {0}
+HasPacking Stated ToSimple = Unit {0}
+HasPacking Stated ToComplex = Unit {0}
+HasPacking Stated (ToSpatial order) = Unit {0}
+HasPacking Stated (ToCoded block interval) = ⊥
+
+-- a message that a profile accepts, whose values can be read and of which nothing fails to fit a packing that the
+-- profile has
 pub record MayBeRepacked (profile : Profile) (target : Target) (message : List ℕ) : Type 0 where
   pub accepted : IsMessageUnder profile message
   pub readable : IsReadable message
   pub are_octets : All (λ octet. octet < 256) message
   pub target_stands : IsTarget target
+  pub packing : HasPacking profile target
   pub fits : repack_misfit target message ≡ None

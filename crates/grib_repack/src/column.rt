@@ -2,13 +2,14 @@
 
 ghost use Rattle.std.specs.Prelude.{◌≡◌, ◌≤◌, IfSome};
 ghost use Rattle.grib_packing.specs.Written.{IsTarget, MayBePacked};
-ghost use Rattle.grib_complex.specs.Below.{IsPackedBelow};
+ghost use Rattle.grib_packing.specs.Below.{IsPackedBelow};
 ghost use Rattle.grib2_message.specs.Fields.{field_count, column_of};
 ghost use Rattle.grib_repack.specs.Faults.{target_of};
 ghost use Rattle.grib_repack.specs.Repacked.{kind_of};
 
 use crate::RepackTarget;
 use grib_bits::u8_at;
+use grib_ccsds::pack_coded_below;
 use grib_complex::{pack_complex, pack_spatial};
 use grib_packing::{Column, PackFault, Packed, Packing};
 use grib_simple::SimplePacking;
@@ -70,5 +71,8 @@ fn pack_column(
         },
         RepackTarget::Complex => pack_complex(alloc, column, kind, below),
         RepackTarget::Spatial(order) => pack_spatial(alloc, column, kind, order, below),
+        RepackTarget::Coded { block, interval } => {
+            pack_coded_below(alloc, column, kind, block, interval, below)
+        }
     }
 }

@@ -2,7 +2,7 @@
 
 ghost use Rattle.std.specs.Prelude.{◌≡◌, ◌≤◌, IfSome};
 ghost use Rattle.grib_packing.specs.Written.{IsTarget, MayBePacked};
-ghost use Rattle.grib_complex.specs.Below.{IsPackedBelow};
+ghost use Rattle.grib_packing.specs.Below.{IsPackedBelow};
 ghost use Rattle.grib2_message.specs.Fields.{field_count, column_of};
 ghost use Rattle.grib_repack.specs.Faults.{target_of};
 ghost use Rattle.grib_repack.specs.Repacked.{kind_of};
@@ -51,6 +51,8 @@ pub fn pack_field(
             Err(fault) => Err(fault),
         },
         RepackTarget::Complex => pack_in_groups(alloc, message, field, column, below),
-        RepackTarget::Spatial(_) => pack_by_column(alloc, message, field, column, target, below),
+        RepackTarget::Spatial(_) | RepackTarget::Coded { .. } => {
+            pack_by_column(alloc, message, field, column, target, below)
+        }
     }
 }

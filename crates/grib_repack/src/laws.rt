@@ -14,6 +14,7 @@ ghost use Rattle.grib2_message.specs.Fields.{field_count, part_octets, column_of
 ghost use Rattle.grib2_message.specs.Message.{IsMessageUnder};
 ghost use Rattle.grib_repack.specs.Repacked.{repacked, MayBeRepacked};
 
+use grib_ccsds::laws::what_is_packed_in_blocks_reads_back;
 use grib_complex::laws::{
     what_is_packed_by_differences_reads_back, what_is_packed_in_groups_reads_back,
 };
@@ -22,9 +23,9 @@ use grib_packing::Packing;
 use grib_simple::laws::what_is_packed_simply_reads_back;
 use grib2_message::laws::{field_holds, what_is_assembled_is_accepted};
 
-/// What is repacked keeps each value: where nothing of a message that a profile accepts fails to fit, and its values can be
-/// read, the repacked message is accepted by that profile and has as many fields. Each field has the same column, so that each of its points means the
-/// same, and its Sections 1 to 4 as they were.
+/// What is repacked keeps each value: where nothing of a message that a profile accepts fails to fit, its values can be
+/// read, and the profile has the packing, the repacked message is accepted by that profile and has as many fields. Each
+/// field has the same column, so that each of its points means the same, and its Sections 1 to 4 as they were.
 pub fn what_is_repacked_keeps_each_value()
     ensures accepted { (profile : Profile) (target : Target) (message : List ℕ) → MayBeRepacked profile target message
         → IsMessageUnder profile (repacked target message) }
@@ -44,6 +45,7 @@ pub fn what_is_repacked_keeps_each_value()
     what_is_packed_simply_reads_back();
     what_is_packed_in_groups_reads_back();
     what_is_packed_by_differences_reads_back();
+    what_is_packed_in_blocks_reads_back();
     field_holds();
     what_is_assembled_is_accepted();
 }
@@ -62,4 +64,5 @@ pub fn what_is_packed_unpacks<P: Packing>(packing: &P)
     what_is_packed_simply_reads_back();
     what_is_packed_in_groups_reads_back();
     what_is_packed_by_differences_reads_back();
+    what_is_packed_in_blocks_reads_back();
 }

@@ -9,4 +9,11 @@ pub enum RepackTarget {
     Complex,
     /// Complex packing of the spatial differences of this order, 1 or 2: template 5.3.
     Spatial(u8),
+    /// CCSDS packing: template 5.42.
+    Coded {
+        /// The values of a block: 8, 16, 32 or 64.
+        block: u8,
+        /// The blocks from one reference to the next: 1 to 4,096.
+        interval: u16,
+    },
 }

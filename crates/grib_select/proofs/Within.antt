@@ -18,7 +18,7 @@ use Rattle.grib2_products.proofs.Under.{same_product_rows, product_accepted}
 use Rattle.grib_packing.specs.Packing.{packing_template}
 use Rattle.grib_packing.specs.Entries.{packing_fault, packing_fault_under, is_opaque_packing}
 use Rattle.grib_packing.proofs.Packings.{packing_passes}
-use Rattle.grib_packing.proofs.OpaquePackings.{known_under, passes_under}
+use Rattle.grib_packing.proofs.OpaquePackings.{passes_under, read_under}
 use Rattle.grib_keys.specs.declared.key.Key.{Key}
 use Rattle.grib_keys.specs.declared.key.Key.TheVariants.{Discipline, Process, Generator, TimeUnit, ForecastTime, Surface1, Surface1Scale, Surface1Value, Surface2, Surface2Scale, Surface2Value, EnsembleType, EnsembleNumber, EnsembleMembers, EndYear, EndMonth, EndDay, EndHour, EndMinute, EndSecond, RangeProcess, RangeIncrementType, RangeUnit, RangeLength}
 use Rattle.grib_keys.specs.declared.table.Layout.{Layout}
@@ -414,7 +414,7 @@ pub packing_within : (profile : Profile) (s : List ℕ) (points : ℕ) → packi
 packing_within profile s points none = go (is_opaque_packing s) refl where
   go : (opaque : Bool) → is_opaque_packing s ≡ opaque → KeysWithin 5 s
   go true is = opaque_packing_within s is (passes_under profile s points none).long
-  go false is = stated_packing_within s points is (sym (known_under profile s points is) ∙ none)
+  go false is = stated_packing_within s points is (read_under profile s points is none)
 
 -- ---- the sections in force for a field
 

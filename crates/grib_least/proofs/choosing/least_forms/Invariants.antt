@@ -6,6 +6,6 @@ use Rattle.grib_least.proofs.choosing.least_forms.Given as goal
 
 abbrev pub invariant-loop-before : goal.invariant-loop-before
 invariant-loop-before l = record {
-  forms : l.forms.items ≡ map (least_form l.message) (range_with_len 1 l.before);
+  forms : l.forms.items ≡ map (least_form l.profile l.message) (range_with_len 1 l.before);
   short : All IsShort l.forms.items;
 }

@@ -13,8 +13,8 @@ use Rattle.grib_least.proofs.laws.least_of_least.Goals as goal
 
 pub returns : goal.returns
 returns c = λ profile message accepted readable each.
-    let unpack = unpacks c.what_is_packed_simply_reads_back.ensures c.what_is_packed_in_groups_reads_back.ensures c.what_is_packed_by_differences_reads_back.ensures in
-    let forms = least_forms message in
+    let unpack = unpacks c.what_is_packed_simply_reads_back.ensures c.what_is_packed_in_groups_reads_back.ensures c.what_is_packed_by_differences_reads_back.ensures c.what_is_packed_in_blocks_reads_back.ensures in
+    let forms = least_forms profile message in
     let stands = least_stands c.a_packing_is_written.ensures unpack profile (c.field_holds.ensures.passes profile) (c.field_holds.ensures.mask profile) message accepted readable each in
     again_least profile message
     (λ low.
@@ -24,14 +24,14 @@ returns c = λ profile message accepted readable each.
       stands = stands;
       fields = c.what_is_assembled_is_accepted.ensures.fields profile message forms may;
       columns = λ i low high.
-          let p = least_form message i in
+          let p = least_form profile message i in
           let place : i - 1 + 1 ≡ i = omega arith in
-          let made = c.what_is_assembled_is_accepted.ensures.columns profile message forms may (i - 1) p (part_there (least_form message) (field_count message) i low high) in
+          let made = c.what_is_assembled_is_accepted.ensures.columns profile message forms may (i - 1) p (part_there (least_form profile message) (field_count message) i low high) in
           subst (λ (n : ℕ). column_of (assembled message forms) n ≡ column_from p.section5 (mask_of p.section6 (grid_points (part_octets message n 3)) None) p.section7) place made
           ∙ (stands i low high).column;
       parts = λ i low high.
-          let p = least_form message i in
+          let p = least_form profile message i in
           let place : i - 1 + 1 ≡ i = omega arith in
           subst (λ (n : ℕ). let x = assembled message forms in (part_octets x n 5 ≡ p.section5) × (part_octets x n 6 ≡ p.section6) × (part_octets x n 7 ≡ p.section7)) place
-          (c.what_is_assembled_is_accepted.ensures.parts profile message forms may (i - 1) p (part_there (least_form message) (field_count message) i low high));
+          (c.what_is_assembled_is_accepted.ensures.parts profile message forms may (i - 1) p (part_there (least_form profile message) (field_count message) i low high));
     })

@@ -4,4 +4,4 @@ use Rattle.grib_least.proofs.Kept.{no_longer}
 use Rattle.grib_least.proofs.laws.nothing_grows.Goals as goal
 
 pub returns : goal.returns
-returns c = λ message. no_longer message (assembled message (least_forms message))
+returns c = λ profile message. no_longer message (assembled message (least_forms profile message))

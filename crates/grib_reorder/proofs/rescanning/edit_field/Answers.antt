@@ -1,4 +1,4 @@
-use Rattle.std.proofs.Common.{ℕ, List, sym, ap, ◌∙◌, subst}
+use Rattle.std.proofs.Common.{ℕ, List, ap, ◌∙◌, subst}
 use Rattle.grib2_grids.specs.Grid.{grid_points}
 use Rattle.grib_packing.specs.Entries.{packing_fault}
 use Rattle.grib_packing.specs.Misfits.{first_misfit}
@@ -6,6 +6,7 @@ use Rattle.grib_packing.specs.Packing.{packing_template}
 use Rattle.grib_packing.specs.declared.written.PackFault.{PackFault}
 use Rattle.grib_packing.specs.Written.{IsPackFault}
 use Rattle.grib2_message.specs.Fields.{part_octets}
+use Rattle.grib_reorder.specs.Fields.{IsBitmapTemplate}
 use Rattle.grib_reorder.specs.Rescanned.{own_target}
 use Rattle.grib_reorder.proofs.Edits.{field_edited}
 use Rattle.grib_reorder.proofs.Packs.{no_secondary}
@@ -29,4 +30,4 @@ unreachable-requires-in-Err-SecondaryMissing c =
     subst (λ (fault : PackFault). IsPackFault (first_misfit (own_target s5) column.points) fault) c.in-Err-SecondaryMissing.field-0-is
     c.in-Err-SecondaryMissing.ensures in
     no_secondary s5 column.points c.in-Err-SecondaryMissing.field-0-0
-    (λ simple. c.in_ok-column.ensures.simple (ap packing_template (sym c.in-Some.ensures.part.1) ∙ simple)) told
+    (λ bitmap. c.in_ok-column.ensures.no_secondary (subst (λ (s : List ℕ). IsBitmapTemplate (packing_template s)) c.in-Some.ensures.part.1 bitmap)) told

@@ -4,7 +4,7 @@ use Rattle.grib_packing.specs.Misfits.{ToComplex}
 use Rattle.grib_packing.specs.Representation.{Spelled}
 use Rattle.grib_packing.specs.declared.column.Column.{Column}
 use Rattle.grib_packing.proofs.Packings.{packing_passes}
-use Rattle.grib_complex.specs.Below.{IsPackedBelow}
+use Rattle.grib_packing.specs.Below.{IsPackedBelow}
 use Rattle.grib2_message.specs.Fields.{part_octets, column_of}
 use Rattle.grib_repack.specs.Repacked.{kind_of}
 use Rattle.grib_repack.proofs.Packing.{none_below}

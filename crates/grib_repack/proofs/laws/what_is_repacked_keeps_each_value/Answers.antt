@@ -10,19 +10,19 @@ use Rattle.grib_repack.proofs.laws.what_is_repacked_keeps_each_value.Goals as go
 
 pub returns-clause-accepted : goal.returns-clause-accepted
 returns-clause-accepted c = λ profile target message may.
-    let unpack = unpacks c.what_is_packed_simply_reads_back.ensures c.what_is_packed_in_groups_reads_back.ensures c.what_is_packed_by_differences_reads_back.ensures in
+    let unpack = unpacks c.what_is_packed_simply_reads_back.ensures c.what_is_packed_in_groups_reads_back.ensures c.what_is_packed_by_differences_reads_back.ensures c.what_is_packed_in_blocks_reads_back.ensures in
     c.what_is_assembled_is_accepted.ensures.accepted profile message (packed_fields target message)
     (may_be_assembled c.a_packing_is_written.ensures unpack profile (c.field_holds.ensures.passes profile) (c.field_holds.ensures.mask profile) target message may)
 
 pub returns-clause-fields : goal.returns-clause-fields
 returns-clause-fields c = λ profile target message may.
-    let unpack = unpacks c.what_is_packed_simply_reads_back.ensures c.what_is_packed_in_groups_reads_back.ensures c.what_is_packed_by_differences_reads_back.ensures in
+    let unpack = unpacks c.what_is_packed_simply_reads_back.ensures c.what_is_packed_in_groups_reads_back.ensures c.what_is_packed_by_differences_reads_back.ensures c.what_is_packed_in_blocks_reads_back.ensures in
     c.what_is_assembled_is_accepted.ensures.fields profile message (packed_fields target message)
     (may_be_assembled c.a_packing_is_written.ensures unpack profile (c.field_holds.ensures.passes profile) (c.field_holds.ensures.mask profile) target message may)
 
 pub returns-clause-columns : goal.returns-clause-columns
 returns-clause-columns c = λ profile target message may i low high.
-    let unpack = unpacks c.what_is_packed_simply_reads_back.ensures c.what_is_packed_in_groups_reads_back.ensures c.what_is_packed_by_differences_reads_back.ensures in
+    let unpack = unpacks c.what_is_packed_simply_reads_back.ensures c.what_is_packed_in_groups_reads_back.ensures c.what_is_packed_by_differences_reads_back.ensures c.what_is_packed_in_blocks_reads_back.ensures in
     let parts = packed_fields target message in
     let p = packed_field target message i in
     let place : i - 1 + 1 ≡ i = omega arith in
@@ -37,6 +37,6 @@ returns-clause-meanings c = λ profile target message may i low high.
 
 pub returns-clause-kept : goal.returns-clause-kept
 returns-clause-kept c = λ profile target message may i k high.
-    let unpack = unpacks c.what_is_packed_simply_reads_back.ensures c.what_is_packed_in_groups_reads_back.ensures c.what_is_packed_by_differences_reads_back.ensures in
+    let unpack = unpacks c.what_is_packed_simply_reads_back.ensures c.what_is_packed_in_groups_reads_back.ensures c.what_is_packed_by_differences_reads_back.ensures c.what_is_packed_in_blocks_reads_back.ensures in
     c.what_is_assembled_is_accepted.ensures.kept profile message (packed_fields target message)
     (may_be_assembled c.a_packing_is_written.ensures unpack profile (c.field_holds.ensures.passes profile) (c.field_holds.ensures.mask profile) target message may) i k high
