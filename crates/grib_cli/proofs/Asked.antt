@@ -15,6 +15,7 @@ use Rattle.grib_keys.specs.Keys.{key_named, can_set}
 use Rattle.grib_synthetic.specs.Made.{MayBeMade}
 use Rattle.grib_repack.specs.declared.target.RepackTarget.{RepackTarget}
 use Rattle.grib_repack.specs.declared.target.RepackTarget.TheVariants.{Simple, Complex, Spatial}
+use Rattle.grib_base.specs.declared.profile.Profile.{Profile}
 use Rattle.grib_command.specs.declared.job.Job.{Job}
 use Rattle.grib_command.specs.Jobs.{IsJob, HasPlaces, is_target}
 use Rattle.grib_cli.specs.declared.words.JobFault.{JobFault}
@@ -24,7 +25,7 @@ use Rattle.grib_cli.specs.declared.words.command.Command.TheVariants as the
 use Rattle.grib_cli.specs.declared.words.command.Command.TheVariants.{Dump, Filter, Split, Set, Repack, Migrate, Demote, Crop, Make}
 use Rattle.grib_cli.specs.Values.{number, is_number, is_between, key_value}
 use Rattle.grib_cli.specs.Reading.{is, is_equals, has_equals, name_in, value_in, is_key_to_set, is_key_value, entries, takes, is_named, has_name, has_word, may_repeat, is_read, read_count, has_target, is_side, in_order, has_sides, number_if_given, is_complete, command_named, reading_of, reading, value_of, number_of}
-use Rattle.grib_cli.specs.Words.{SidesStand, target_of, change, changes_of, job_of_command, job_of_reading, IsUnlessMemory, IsAsked}
+use Rattle.grib_cli.specs.Words.{SidesStand, profile_of, target_of, usual_blocks, change, changes_of, job_of_command, job_of_reading, IsUnlessMemory, IsAsked}
 
 -- the key of a change can be set
 abbrev CanBeSet : Change → Type 0
@@ -181,39 +182,40 @@ order_is value h =
     (either (is (codes "1") value) (is (codes "2") value) own))
     (λ no. absurd (false≢true no)) (either (is (codes "1") value || is (codes "2") value) false h)
 
--- `order` stands, and is 1 or 2, beside a `to` that is neither 0 nor 2
+-- `order` stands, and is 1 or 2, beside a `to` that is neither 0, 2 nor 42
 pub record TargetStands (words : List (List ℕ)) : Type 0 where
   pub order : is (codes "0") (value_of (codes "to") words) ≡ false → is (codes "2") (value_of (codes "to") words) ≡ false
-      → is_between 1 2 (value_of (codes "order") words) ≡ true
+      → is (codes "42") (value_of (codes "to") words) ≡ false → is_between 1 2 (value_of (codes "order") words) ≡ true
 
 order_there : (words : List (List ℕ)) (b c d : Bool) → cond b c d ≡ true → b ≡ true → c ≡ true
 order_there words true c d h e = h
 order_there words false c d h e = absurd (false≢true e)
 
 target_in : (words : List (List ℕ)) → has_target words ≡ true
-    → (has_name (codes "to") words ≡ true → ((is (codes "0") (value_of (codes "to") words) || is (codes "2") (value_of (codes "to") words) || is (codes "3") (value_of (codes "to") words)) || false) ≡ true)
+    → (has_name (codes "to") words ≡ true → is (codes "42") (value_of (codes "to") words) ≡ false → ((is (codes "0") (value_of (codes "to") words) || is (codes "2") (value_of (codes "to") words) || is (codes "3") (value_of (codes "to") words)) || false) ≡ true)
     → (has_name (codes "order") words ≡ true → ((is (codes "1") (value_of (codes "order") words) || is (codes "2") (value_of (codes "order") words)) || false) ≡ true)
     → TargetStands words
 target_in words complete to order =
     let parts = both (has_name (codes "to") words) (cond (has_word (codes "to=3") words) (has_name (codes "order") words) (not (has_name (codes "order") words))) complete in
     record {
-      order = λ zero two.
-          let three = to_is (value_of (codes "to") words) (to parts.0) zero two in
+      order = λ zero two coded.
+          let three = to_is (value_of (codes "to") words) (to parts.0 coded) zero two in
           let there : has_word (codes "to=3") words ≡ true = word_there (codes "to") (codes "3") words parts.0 three in
           order_is (value_of (codes "order") words) (order (order_there words (has_word (codes "to=3") words) (has_name (codes "order") words) (not (has_name (codes "order") words)) parts.1 there));
     }
 
-unless_least : (target least : Bool) → (target || (least || false)) ≡ true → least ≡ false → (target || false) ≡ true
-unless_least true least h other = refl
-unless_least false true h other = let same : ⊥ = cc in absurd same
-unless_least false false h other = h
+unless_least : (target least coded : Bool) → (target || ((least || coded) || false)) ≡ true → least ≡ false → coded ≡ false → (target || false) ≡ true
+unless_least true least coded h other blocks = refl
+unless_least false true coded h other blocks = let same : ⊥ = cc in absurd same
+unless_least false false true h other blocks = let same : ⊥ = cc in absurd same
+unless_least false false false h other blocks = h
 
 pub repack_stands : (words : List (List ℕ)) → HasRead Repack words → is (codes "least") (value_of (codes "to") words) ≡ false → TargetStands words
 repack_stands words read other =
-    target_in words read.complete
-    (λ has.
+    target_in words (both (has_target words) (cond (has_word (codes "to=42") words) (has_word (codes "profile=open") words) true) read.complete).0
+    (λ has blocks.
     unless_least (is (codes "0") (value_of (codes "to") words) || is (codes "2") (value_of (codes "to") words) || is (codes "3") (value_of (codes "to") words))
-    (is (codes "least") (value_of (codes "to") words)) (value_taken Repack (codes "to") words read.all has) other)
+    (is (codes "least") (value_of (codes "to") words)) (is (codes "42") (value_of (codes "to") words)) (value_taken Repack (codes "to") words read.all has) other blocks)
     (λ has. value_taken Repack (codes "order") words read.all has)
 
 -- ---- numbers
@@ -269,7 +271,7 @@ make_sized words read =
 
 pub make_stands : (words : List (List ℕ)) → HasRead Make words → TargetStands words
 make_stands words read =
-    target_in words (make_sized words read).target (λ has. value_taken Make (codes "to") words read.all has) (λ has. value_taken Make (codes "order") words read.all has)
+    target_in words (make_sized words read).target (λ has blocks. value_taken Make (codes "to") words read.all has) (λ has. value_taken Make (codes "order") words read.all has)
 
 -- ---- boxes
 
@@ -382,15 +384,17 @@ changes_can (word ∷ later) all =
 one_or_two : (n : ℕ) → 1 ≤ n → n ≤ 2 → ((n == 1) || (n == 2)) ≡ true
 one_or_two n low high = grind (arith, tests)
 
-target_by : (zero two : Bool) (n : ℕ) → (zero ≡ false → two ≡ false → (1 ≤ n) × (n ≤ 2)) → is_target (cond zero Simple (cond two Complex (Spatial n))) ≡ true
-target_by true two n h = refl
-target_by false true n h = refl
-target_by false false n h = let bounds = h refl refl in one_or_two n bounds.0 bounds.1
+target_by : (zero two coded : Bool) (n : ℕ) → (zero ≡ false → two ≡ false → coded ≡ false → (1 ≤ n) × (n ≤ 2))
+    → is_target (cond zero Simple (cond two Complex (cond coded usual_blocks (Spatial n)))) ≡ true
+target_by true two coded n h = refl
+target_by false true coded n h = refl
+target_by false false true n h = refl
+target_by false false false n h = let bounds = h refl refl refl in one_or_two n bounds.0 bounds.1
 
 target_is : (words : List (List ℕ)) → TargetStands words → is_target (target_of words) ≡ true
 target_is words stands =
-    target_by (is (codes "0") (value_of (codes "to") words)) (is (codes "2") (value_of (codes "to") words)) (number_of (codes "order") words)
-    (λ zero two. let b = between 1 2 (value_of (codes "order") words) (stands.order zero two) in (b.low, b.high))
+    target_by (is (codes "0") (value_of (codes "to") words)) (is (codes "2") (value_of (codes "to") words)) (is (codes "42") (value_of (codes "to") words)) (number_of (codes "order") words)
+    (λ zero two coded. let b = between 1 2 (value_of (codes "order") words) (stands.order zero two coded) in (b.low, b.high))
 
 size_is : (words : List (List ℕ)) → SizeStands words → MayBeMade (number_of (codes "seed") words) (number_of (codes "ni") words) (number_of (codes "nj") words)
 size_is words stands =
@@ -403,9 +407,9 @@ places : (given : Option ℕ) → IfSome given (λ n. n ≤ 18) → HasPlaces (j
 places None few = tt
 places (Some n) few = few
 
-repack_job : (least : Bool) (target : RepackTarget) → (least ≡ false → is_target target ≡ true) → IsJob (cond least jobs.RepackLeast (jobs.Repack target))
-repack_job true target stands = record { target_stands = refl; size_stands = tt; changes_stand = no_changes; places_stand = tt; area_stands = tt }
-repack_job false target stands = record { target_stands = stands refl; size_stands = tt; changes_stand = no_changes; places_stand = tt; area_stands = tt }
+repack_job : (least : Bool) (profile : Profile) (target : RepackTarget) → (least ≡ false → is_target target ≡ true) → IsJob (cond least (jobs.RepackLeast profile) (jobs.Repack target))
+repack_job true profile target stands = record { target_stands = refl; size_stands = tt; changes_stand = no_changes; places_stand = tt; area_stands = tt }
+repack_job false profile target stands = record { target_stands = stands refl; size_stands = tt; changes_stand = no_changes; places_stand = tt; area_stands = tt }
 
 pub is_job : (command : Command) (words : List (List ℕ)) → HasRead command words → IfOk (job_of_command command words) IsJob
 is_job the.Check words read = record { target_stands = refl; size_stands = tt; changes_stand = no_changes; places_stand = tt; area_stands = tt }
@@ -428,7 +432,7 @@ is_job Filter words read = record { target_stands = refl; size_stands = tt; chan
 is_job Split words read = record { target_stands = refl; size_stands = tt; changes_stand = no_changes; places_stand = tt; area_stands = tt }
 is_job Set words read = record { target_stands = refl; size_stands = tt; changes_stand = changes_can words read.all; places_stand = tt; area_stands = tt }
 is_job Repack words read =
-    repack_job (is (codes "least") (value_of (codes "to") words)) (target_of words) (λ other. target_is words (repack_stands words read other))
+    repack_job (is (codes "least") (value_of (codes "to") words)) (profile_of words) (target_of words) (λ other. target_is words (repack_stands words read other))
 is_job Make words read =
     record { target_stands = target_is words (make_stands words read); size_stands = size_is words (make_sized words read); changes_stand = no_changes; places_stand = tt; area_stands = tt }
 is_job Migrate words read = record { target_stands = refl; size_stands = tt; changes_stand = no_changes; places_stand = tt; area_stands = tt }

@@ -87,7 +87,7 @@ own_rule name =
     (codes "a whole number from 0 to 33554431"))))))))))
 
 abbrev pub repack_rule : List ℕ → List ℕ
-repack_rule name = cond (is (codes "to") name) (codes "0, 2, 3 or least") (own_rule name)
+repack_rule name = cond (is (codes "to") name) (codes "0, 2, 3, 42 or least") (own_rule name)
 
 abbrev pub migrate_rule : List ℕ → List ℕ
 migrate_rule name = cond (is (codes "local") name) (codes "keep or ecmwf") (own_rule name)
@@ -227,11 +227,15 @@ named_or words names other = or_else (fold (with_wanted words) [] names) other
 abbrev pub order_wanted : List (List ℕ) → List ℕ
 order_wanted words = cond (has_word (codes "to=3") words) (codes "order=1 or order=2 beside to=3") (codes "order= beside to=3 alone")
 
+-- beside `to` of repack: the profile that has the packing, or the order
+abbrev pub beside_to : List (List ℕ) → List ℕ
+beside_to words = cond (has_word (codes "to=42") words && not (has_word (codes "profile=open") words)) (codes "profile=open beside to=42") (order_wanted words)
+
 abbrev pub wanted : Command → List (List ℕ) → List ℕ
 wanted Crop words =
     named_or words (codes "i0" ∷ codes "i1" ∷ codes "j0" ∷ codes "j1" ∷ []) (codes "i0= at most i1=, and j0= at most j1=")
 wanted Make words = named_or words (codes "seed" ∷ codes "ni" ∷ codes "nj" ∷ codes "to" ∷ []) (order_wanted words)
-wanted Repack words = named_or words (codes "to" ∷ []) (order_wanted words)
+wanted Repack words = named_or words (codes "to" ∷ []) (beside_to words)
 wanted Split words = named_or words (codes "out" ∷ []) []
 wanted Migrate words = named_or words (codes "params" ∷ []) []
 wanted Demote words = named_or words (codes "params" ∷ []) []
@@ -257,7 +261,8 @@ repack_deed words =
     cond (has_word (codes "to=0") words) (codes "writes each message in simple packing")
     (cond (has_word (codes "to=2") words) (codes "writes each message in complex packing")
     (cond (has_word (codes "to=3") words) (codes "writes each message in complex packing with spatial differencing")
-    (codes "writes each field in the smallest of the packings, or as it is")))
+    (cond (has_word (codes "to=42") words) (codes "writes each message in CCSDS packing")
+    (codes "writes each field in the smallest of the packings, or as it is"))))
 
 abbrev pub deed_of : Command → List (List ℕ) → List ℕ
 deed_of Check words = codes "writes a line for each message, and a line on the input"

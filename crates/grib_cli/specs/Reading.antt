@@ -66,9 +66,9 @@ target_entries =
     ∷ entry (is (codes "order")) (λ value. is (codes "1") value || is (codes "2") value)
     ∷ []
 
--- or in which takes the fewest octets
+-- or in which takes the fewest octets, or in blocks
 abbrev pub repack_entries : List Entry
-repack_entries = target_entries ++ entry (is (codes "to")) (is (codes "least")) ∷ []
+repack_entries = target_entries ++ entry (is (codes "to")) (λ value. is (codes "least") value || is (codes "42") value) ∷ []
 
 -- what a made message is made from: where its numbers begin, and its points along a row and a column
 abbrev pub size_entries : List Entry
@@ -148,6 +148,10 @@ has_target words =
     has_name (codes "to") words
     && cond (has_word (codes "to=3") words) (has_name (codes "order") words) (not (has_name (codes "order") words))
 
+-- and `to=42` stands beside `profile=open`, which has that packing
+abbrev pub has_repack_target : List (List ℕ) → Bool
+has_repack_target words = has_target words && cond (has_word (codes "to=42") words) (has_word (codes "profile=open") words) true
+
 -- the value of the word of this name, empty where none has it, and its number
 abbrev pub value_of : List ℕ → List (List ℕ) → List ℕ
 value_of name words = option_map_or value_in (find (is_named name) words) []
@@ -213,7 +217,7 @@ row_of Values = row (codes "values") (entry (is (codes "as")) (λ value. is (cod
 row_of Filter = row (codes "filter") (entry is_asked is_test ∷ []) has_asking
 row_of Split = row (codes "split") (entry (is (codes "out")) is_not_empty ∷ []) (has_name (codes "out"))
 row_of Set = row (codes "set") (entry is_key_to_set is_key_value ∷ []) has_key
-row_of Repack = row (codes "repack") repack_entries has_target
+row_of Repack = row (codes "repack") repack_entries has_repack_target
 row_of Migrate =
     row (codes "migrate")
     (entry (is (codes "params")) is_not_empty ∷ entry (is (codes "surfaces")) is_not_empty

@@ -21,7 +21,7 @@ use Rattle.grib_params.specs.declared.matching.TableMatch.TheVariants.{Any, Same
 use Rattle.grib_stream.specs.declared.outcome.Outcome.{Outcome}
 use Rattle.grib_stream.specs.declared.outcome.Outcome.TheVariants as outcomes
 use Rattle.grib_repack.specs.declared.target.RepackTarget.{RepackTarget}
-use Rattle.grib_repack.specs.declared.target.RepackTarget.TheVariants.{Simple, Complex, Spatial}
+use Rattle.grib_repack.specs.declared.target.RepackTarget.TheVariants.{Simple, Complex, Spatial, Coded}
 use Rattle.grib_rescan.specs.declared.points.Area.{Area}
 use Rattle.grib_command.specs.declared.job.Job.{Job}
 use Rattle.grib_command.specs.declared.job.Job.TheVariants as jobs
@@ -40,15 +40,23 @@ use Rattle.grib_run_spec.specs.Tasks.{Work, Makes, ends_at_once, writing}
 use Rattle.grib_cli.specs.Helping.{is_on_words, told_of_words}
 use Rattle.grib_cli.specs.Reading.{is, is_marked, asked_key, name_in, value_in, value_of, value_if_given, number_of, number_if_given, has_name, has_word, reading}
 
+-- by which profile messages of edition 2 are accepted
+abbrev pub profile_of : List (List ℕ) → Profile
+profile_of words = cond (has_word (codes "profile=open") words) Open Stated
+
+-- CCSDS packing with the usual blocks: 32 values, and a reference each 128 blocks
+abbrev pub usual_blocks : RepackTarget
+usual_blocks = Coded 32 128
+
 -- what `to` and `order` ask for
 abbrev pub target_of : List (List ℕ) → RepackTarget
 target_of words =
     let to = value_of (codes "to") words in
-    cond (is (codes "0") to) Simple (cond (is (codes "2") to) Complex (Spatial (number_of (codes "order") words)))
+    cond (is (codes "0") to) Simple (cond (is (codes "2") to) Complex (cond (is (codes "42") to) usual_blocks (Spatial (number_of (codes "order") words))))
 
 -- how the words ask messages to be repacked
 abbrev pub repack_of : List (List ℕ) → Job
-repack_of words = cond (is (codes "least") (value_of (codes "to") words)) jobs.RepackLeast (jobs.Repack (target_of words))
+repack_of words = cond (is (codes "least") (value_of (codes "to") words)) (jobs.RepackLeast (profile_of words)) (jobs.Repack (target_of words))
 
 -- the sides of a box fit 32 bits
 pub record SidesStand (words : List (List ℕ)) : Type 0 where
@@ -150,10 +158,6 @@ policy_of words = record {
   refused = instead_by (codes "refused=copy") (codes "refused=pass") words;
   kept = instead_by (codes "kept=copy") (codes "kept=pass") words;
 }
-
--- by which profile messages of edition 2 are accepted
-abbrev pub profile_of : List (List ℕ) → Profile
-profile_of words = cond (has_word (codes "profile=open") words) Open Stated
 
 -- ---- words without a reading
 

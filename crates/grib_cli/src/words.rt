@@ -1,6 +1,6 @@
 //! The arguments of the command line.
 
-ghost use Rattle.std.specs.Prelude.{◌≡◌, ◌≤◌, [], length, map, string_bytes, IfOk};
+ghost use Rattle.std.specs.Prelude.{codes, cond, true, ◌≡◌, ◌≤◌, [], length, map, string_bytes, IfOk};
 ghost use Rattle.grib_command.specs.Jobs.{IsJob};
 ghost use Rattle.grib_cli.specs.Reading as grammar;
 ghost use Rattle.grib_cli.specs.Reading.{entries, own_entries, policy_entries, past_entries, profile_entries, box_entries, size_entries, target_entries, reading};
@@ -194,7 +194,9 @@ fn takes_own(command: Command, name: &str, value: &str) -> bool
         Command::Filter => asked_key(name).is_some() && is_test(value),
         Command::Set => is_key_to_set(name) && key_value(value).is_some(),
         Command::Split => name == "out" && !value.is_empty(),
-        Command::Repack => takes_target(name, value) || (name == "to" && value == "least"),
+        Command::Repack => {
+            takes_target(name, value) || (name == "to" && matches!(value, "least" | "42"))
+        }
         Command::Migrate => {
             (matches!(name, "params" | "surfaces") && !value.is_empty())
                 || (name == "local" && matches!(value, "keep" | "ecmwf"))
@@ -268,7 +270,7 @@ fn is_complete(command: Command, words: &[String]) -> bool
         Command::Filter => has_asking(words),
         Command::Set => has_key(words),
         Command::Split => has_name(words, "out"),
-        Command::Repack => has_target(words),
+        Command::Repack => has_target(words) && has_profile_of_target(words),
         Command::Migrate | Command::Demote => has_name(words, "params"),
         Command::Crop => has_box(words),
         Command::Make => {
@@ -278,6 +280,13 @@ fn is_complete(command: Command, words: &[String]) -> bool
                 && has_target(words)
         }
     }
+}
+
+/// Whether a packing that only the open profile has is asked for beside `profile=open` alone.
+fn has_profile_of_target(words: &[String]) -> bool
+    ensures { result ≡ cond (grammar.has_word (codes "to=42") (map string_bytes words.now)) (grammar.has_word (codes "profile=open") (map string_bytes words.now)) true }
+{
+    !has_word(words, "to=42") || has_word(words, "profile=open")
 }
 
 /// Whether one of the arguments is on a key.

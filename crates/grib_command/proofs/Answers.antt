@@ -1,8 +1,9 @@
 -- What comes of a message.
-use Rattle.std.proofs.Common.{◌≡◌, ◌⊎◌, IfOk, Ok, Err, ℕ, true, false, Bool, ◌||◌, ◌==◌, None, Option, List, length, refl, sym, ap, ◌∙◌, subst, inl, inr, eqb-true}
+use Rattle.std.proofs.Common.{◌≡◌, ◌⊎◌, IfOk, Ok, Err, ℕ, true, false, Bool, ◌||◌, ◌&&◌, ◌==◌, nat_lt, arith, None, Option, List, length, refl, sym, ap, ◌∙◌, subst, inl, inr, eqb-true}
+use Rattle.grib_packing.specs.Coded.{is_block}
 use Rattle.grib_packing.specs.Written.{IsTarget}
 use Rattle.std.specs.declared.result.Result.{Result}
-use Rattle.std.proofs.lemmas.Bool.{false≢true}
+use Rattle.std.proofs.lemmas.Bool.{false≢true, ltb-true}
 use Rattle.std.specs.Io.KnownBytes.{Appends}
 use Rattle.grib_io.specs.Outside.{AppendsFront, CountsStop, Unfinished}
 use Rattle.grib_io.specs.Shelves.{Held}
@@ -12,7 +13,7 @@ use Rattle.grib_stream.specs.Acts.{world, writes, DidFront}
 use Rattle.grib_stream.specs.Task.{Given, Gives}
 use Rattle.grib_stream.proofs.Worlds.{did_write, did_write_front}
 use Rattle.grib_repack.specs.declared.target.RepackTarget.{RepackTarget}
-use Rattle.grib_repack.specs.declared.target.RepackTarget.TheVariants.{Simple, Complex, Spatial}
+use Rattle.grib_repack.specs.declared.target.RepackTarget.TheVariants.{Simple, Complex, Spatial, Coded}
 use Rattle.grib_repack.specs.Faults.{target_of}
 use Rattle.grib_reasons.specs.declared.cause.Cause.{Cause}
 use Rattle.grib_command.specs.declared.answered.Answered.{Answered}
@@ -26,11 +27,35 @@ one_or_two : (a b : Bool) (order : ℕ) → (order == 1) ≡ a → (order == 2) 
 one_or_two true b order one two h = inl (eqb-true order 1 one)
 one_or_two false b order one two h = inr (eqb-true order 2 (two ∙ h))
 
+both : (a b : Bool) → (a && b) ≡ true → (a ≡ true) × (b ≡ true)
+both true b h = (refl, h)
+both false b h = cc
+
+either : (a b : Bool) → (a || b) ≡ true → (a ≡ true) ⊎ (b ≡ true)
+either true b h = inl refl
+either false b h = inr h
+
+-- a block of this many values can be
+block_stands : (block : ℕ) → is_block block ≡ true → (block ≡ 8) ⊎ ((block ≡ 16) ⊎ ((block ≡ 32) ⊎ (block ≡ 64)))
+block_stands block h = elim (either (block == 8) ((block == 16) || ((block == 32) || (block == 64))) h) [
+  | inl is ↦ inl (eqb-true block 8 is)
+  | inr more ↦ elim (either (block == 16) ((block == 32) || (block == 64)) more) [
+    | inl is ↦ inr (inl (eqb-true block 16 is))
+    | inr last ↦ elim (either (block == 32) (block == 64) last) [ inl is ↦ inr (inr (inl (eqb-true block 32 is))) | inr is ↦ inr (inr (inr (eqb-true block 64 is))) ]
+  ]
+]
+
 -- what fields are packed to is there
 pub target_stands : (target : RepackTarget) → is_target target ≡ true → IsTarget (target_of target)
 target_stands Simple is = tt
 target_stands Complex is = tt
 target_stands (Spatial order) is = one_or_two (order == 1) (order == 2) order refl refl is
+target_stands (Coded block interval) is =
+    let parts = both (is_block block) (nat_lt 0 interval && nat_lt interval 4097) is in
+    let bounds = both (nat_lt 0 interval) (nat_lt interval 4097) parts.1 in
+    let low = ltb-true 0 interval bounds.0 in
+    let high = ltb-true interval 4097 bounds.1 in
+    (block_stands block parts.0, omega (arith, low), omega (arith, high))
 
 -- ---- what was printed or written, by the output alone
 

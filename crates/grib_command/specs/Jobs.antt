@@ -1,18 +1,21 @@
 -- Which jobs there are.
-use Rattle.std.specs.Prelude.{◌≡◌, ◌≤◌, Some, Bool, true, ◌||◌, ◌==◌, List, [], All, IsTrue}
+use Rattle.std.specs.Prelude.{◌≡◌, ◌≤◌, Some, Bool, true, ◌||◌, ◌&&◌, ◌==◌, nat_lt, List, [], All, IsTrue}
 use Rattle.grib_keys.specs.declared.condition.Change.{Change}
 use Rattle.grib_keys.specs.Keys.{can_set}
+use Rattle.grib_packing.specs.Coded.{is_block}
 use Rattle.grib_repack.specs.declared.target.RepackTarget.{RepackTarget}
-use Rattle.grib_repack.specs.declared.target.RepackTarget.TheVariants.{Simple, Complex, Spatial}
+use Rattle.grib_repack.specs.declared.target.RepackTarget.TheVariants.{Simple, Complex, Spatial, Coded}
 use Rattle.grib_synthetic.specs.Made.{MayBeMade}
 use Rattle.grib_command.specs.declared.job.Job.{Job}
 use Rattle.grib_command.specs.declared.job.Job.TheVariants.{Dump, Set, Repack, Crop, Make}
 
--- spatial differences are of order 1 or 2
+-- spatial differences are of order 1 or 2; a block has 8, 16, 32 or 64 values, and there are 1 to 4,096 of them from one
+-- reference to the next
 abbrev pub is_target : RepackTarget → Bool
 is_target Simple = true
 is_target Complex = true
 is_target (Spatial order) = (order == 1) || (order == 2)
+is_target (Coded block interval) = is_block block && (nat_lt 0 interval && nat_lt interval 4097)
 
 -- whether what fields are packed to is there
 abbrev pub has_target : Job → Bool

@@ -2,7 +2,7 @@
 
 use crate::name::Name;
 use crate::page::Page;
-use grib_base::List;
+use grib_base::{List, Profile};
 use grib_migrate::Local;
 use grib_nearest::Format;
 use grib_params::TableMatch;
@@ -44,8 +44,8 @@ pub enum Job {
     Set(Changes),
     /// Each message with its fields packed anew.
     Repack(RepackTarget),
-    /// Each message with each of its fields in the packing that takes the fewest octets, or as it is.
-    RepackLeast,
+    /// Each message with each of its fields in the packing of this profile that takes the fewest octets, or as it is.
+    RepackLeast(Profile),
     /// Each message with the points of its grids in the order of scanning octet 0.
     Rescan,
     /// Each message with a subarea of its grids alone.

@@ -134,14 +134,17 @@ pub fn answer_message<T: Sink, H: Shelf>(
                 shelf,
             )
         }
-        Job::RepackLeast => answer_held(
-            &ByOutput(Changing(OfValues(Shrinking))),
-            alloc,
-            place,
-            held,
-            output,
-            shelf,
-        ),
+        Job::RepackLeast(profile) => {
+            let profile = *profile;
+            answer_held(
+                &ByOutput(Changing(OfValues(Shrinking { profile }))),
+                alloc,
+                place,
+                held,
+                output,
+                shelf,
+            )
+        }
         Job::Rescan => {
             let edit = GridEdit::Rescan;
             answer_held(

@@ -146,9 +146,7 @@ fn in_packing(alloc: Global, message: Vec<u8>, target: RepackTarget) -> Result<V
 {
     match target {
         RepackTarget::Simple => Ok(message),
-        RepackTarget::Complex | RepackTarget::Spatial(_) => {
-            repack_whole(alloc, message.as_slice(), target)
-        }
+        _ => repack_whole(alloc, message.as_slice(), target),
     }
 }
 

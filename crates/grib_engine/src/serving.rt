@@ -156,8 +156,8 @@ pub fn serve_under<S: Source, T: Sink, N: Sink, H: Shelf>(
                 &repacking, alloc, profile, policy, input, output, notes, shelf,
             )
         }
-        Job::RepackLeast => {
-            let shrinking = ByOutput(Changing(OfValues(Shrinking)));
+        Job::RepackLeast(tried) => {
+            let shrinking = ByOutput(Changing(OfValues(Shrinking { profile: *tried })));
             serve_messages(
                 &shrinking, alloc, profile, policy, input, output, notes, shelf,
             )

@@ -19,9 +19,10 @@ use Rattle.grib_dyadic.specs.Meaning.{SameMeaning}
 use Rattle.grib_bitmap.specs.Mask.{present_count, bitmap_rows}
 use Rattle.grib_bitmap.specs.Mask as mask2
 use Rattle.grib2_grids.specs.Grid.{grid_points}
+use Rattle.grib_base.specs.declared.profile.Profile.TheVariants.{Stated}
 use Rattle.grib_packing.specs.Packing.{reference_word, binary_scale, decimal_scale}
 use Rattle.grib_packing.specs.Column.{points_with_mask}
-use Rattle.grib_packing.specs.Entries.{packing_fault, column_from}
+use Rattle.grib_packing.specs.Entries.{packing_fault_under, column_from}
 use Rattle.grib_packing.specs.declared.column.Column.{Column}
 use Rattle.grib_packing.specs.declared.column.Point.{Point}
 use Rattle.grib_params.specs.Surfaces.{SurfaceEntries}
@@ -219,7 +220,7 @@ module _ (target : Target) (unit : UnitOfTime) (surfaces : Surfaces) (member : O
         itself_7 = data_itself values r e d width kind (drop 11 s4) is.may data_within (omega (arith, short_4, length-drop 11 s4));
         grid = grid_passes (grid m) points is.octets_2 is.sections.grid_stands.rows_hold is.holds.grid refl is.some is.few;
         product = product_passes member target s1 (coordinate_list (grid m)) unit surfaces few_coordinates;
-        packing = ap (packing_fault (written_5 m r)) here ∙ packing_passes values r e d width kind is.may points is.values_few;
+        packing = ap (packing_fault_under Stated (written_5 m r)) here ∙ packing_passes values r e d width kind is.may points is.values_few;
         bitmap = λ earlier. ap₂ (λ (n k : ℕ). first_fault (bitmap_rows (written_6 m) n k earlier)) here
             (values_stand values r e d width kind is.may)
             ∙ bitmap_passes points is.few (bitmap m) is.holds.bitmap values refl earlier;

@@ -4,7 +4,7 @@ use Rattle.grib_bits.specs.Octets.{StatesItself}
 use Rattle.grib_base.specs.Rows.{first_fault, located}
 use Rattle.grib_bitmap.specs.Mask.{bitmap_rows, mask_of}
 use Rattle.grib_packing.specs.Packing.{value_count}
-use Rattle.grib_packing.specs.Entries.{packing_fault, data_fault}
+use Rattle.grib_packing.specs.Entries.{packing_fault_under, data_fault}
 use Rattle.grib_base.specs.declared.profile.Profile.TheVariants.{Stated}
 use Rattle.grib2_sections.specs.Frame.{Placed, placed_at, section_number, may_follow, may_end}
 use Rattle.grib2_grids.specs.Grid.{grid_rows, grid_points}
@@ -25,7 +25,7 @@ pub record FieldPasses (s3 s4 s5 s6 s7 : List ℕ) : Type 0 where
   pub itself_7 : StatesItself 7 s7
   pub grid : first_fault (grid_rows s3) ≡ None
   pub product : first_fault (product_rows s4 1) ≡ None
-  pub packing : packing_fault s5 (grid_points s3) ≡ None
+  pub packing : packing_fault_under Stated s5 (grid_points s3) ≡ None
   pub bitmap : (earlier : Option (List Bool)) → first_fault (bitmap_rows s6 (grid_points s3) (value_count s5) earlier) ≡ None
   pub values : data_fault s5 s7 ≡ None
 
@@ -111,7 +111,7 @@ module _ (before : List Placed) (start : ℕ) (s3 s4 s5 s6 s7 : List ℕ) (first
         least = parts.itself_5.least;
         follows = ap₂ may_follow parts.itself_4.number_stands parts.itself_5.number_stands;
         rows_hold = fault_of Stated b (placed_at place s5) 5 parts.itself_5.number_stands
-            ∙ ap (λ (points : ℕ). located place (packing_fault s5 points)) (points_5 before start s3 s4 s5 s6 s7 first parts)
+            ∙ ap (λ (points : ℕ). located place (packing_fault_under Stated s5 points)) (points_5 before start s3 s4 s5 s6 s7 first parts)
             ∙ ap (located place) parts.packing;
       }
 

@@ -11,10 +11,12 @@ use Rattle.grib_base.proofs.Passing.{none_from_passes}
 use Rattle.grib_base.specs.declared.limits.TheConstants.{MOST_POINTS}
 use Rattle.grib_dyadic.specs.Reference.{IsFinite}
 use Rattle.grib_bitmap.specs.Mask.{bitmap_rows, mask_of, present_count}
+use Rattle.grib_base.specs.declared.profile.Profile.TheVariants.{Stated}
 use Rattle.grib_packing.specs.declared.column.Point.TheVariants.{Scaled}
 use Rattle.grib_packing.specs.Packing.{value_count, reference_word, binary_scale, decimal_scale, bit_width}
 use Rattle.grib_packing.specs.Simple.{simple_rows}
-use Rattle.grib_packing.specs.Entries.{packing_rows, packing_fault, data_fault, entries_of}
+use Rattle.grib_packing.specs.Entries.{packing_rows, packing_fault_under, data_fault, entries_of}
+use Rattle.grib_packing.proofs.OpaquePackings.{accepted_stated}
 use Rattle.grib_packing.proofs.Packings.{packing_fault-simple}
 use Rattle.grib1_sections.specs.Bitmap as bitmap1
 use Rattle.grib_bits.specs.declared.adding.Number.TheVariants.{One, Two, Four}
@@ -73,9 +75,10 @@ module _ (values reference e d width kind : ℕ) (may : MayBeWritten values refe
     ),
   )
 
-  pub packing_passes : (points : ℕ) → values ≤ points → packing_fault (packing_with values reference e d width kind) points ≡ None
+  pub packing_passes : (points : ℕ) → values ≤ points → packing_fault_under Stated (packing_with values reference e d width kind) points ≡ None
   packing_passes points few =
-      packing_fault-simple (packing_with values reference e d width kind) points (rows_pass points few) refl
+      let s = packing_with values reference e d width kind in
+      accepted_stated Stated s points refl (packing_fault-simple s points (rows_pass points few) refl)
 
   pub packing_itself : StatesItself 5 (packing_with values reference e d width kind)
   packing_itself = StatesItself-section_of 5 (all_octets (Four values ∷ Two 0 ∷ Four reference ∷ Two e ∷ Two d ∷ One width ∷ One kind ∷ [])) (omega arith)

@@ -40,7 +40,7 @@ made_done (Filter conditions) stated is = let no : ⊥ = cc in absurd no
 made_done (Split name) stated is = let no : ⊥ = cc in absurd no
 made_done (Set changes) stated is = let no : ⊥ = cc in absurd no
 made_done (Repack target) stated is = let no : ⊥ = cc in absurd no
-made_done RepackLeast stated is = let no : ⊥ = cc in absurd no
+made_done (RepackLeast profile) stated is = let no : ⊥ = cc in absurd no
 made_done Rescan stated is = let no : ⊥ = cc in absurd no
 made_done (Crop area) stated is = let no : ⊥ = cc in absurd no
 made_done (Migrate params surfaces local) stated is = let no : ⊥ = cc in absurd no

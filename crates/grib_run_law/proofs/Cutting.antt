@@ -101,7 +101,7 @@ job_parts profile (Filter conditions) texts front rest is each fits ends done =
 job_parts profile (Set changes) texts front rest is each fits ends done =
     unless_parts profile (2 ^ 40) front rest fits ends _ _ (set_lawful changes is.changes_stand) done
 job_parts profile (Repack target) texts front rest is each fits ends done = values_parts profile (2 ^ 40) front rest fits ends _ _ (repack_lawful target) done
-job_parts profile RepackLeast texts front rest is each fits ends done = values_parts profile (2 ^ 40) front rest fits ends (λ message. None) least least_lawful done
+job_parts profile (RepackLeast tried) texts front rest is each fits ends done = values_parts profile (2 ^ 40) front rest fits ends (λ message. None) (least tried) (least_lawful tried) done
 job_parts profile Rescan texts front rest is each fits ends done = values_parts profile (2 ^ 40) front rest fits ends _ _ (edit_lawful edits.Rescan) done
 job_parts profile (Crop area) texts front rest is each fits ends done = values_parts profile (2 ^ 40) front rest fits ends _ _ (edit_lawful (edits.Crop area)) done
 job_parts profile (Migrate params surfaces local) texts front rest is each fits ends done = migrate_parts profile local (both surfaces texts) front rest fits ends done

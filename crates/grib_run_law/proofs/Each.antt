@@ -30,7 +30,7 @@ use Rattle.grib_migrate_law.specs.Source.{MayBeMigratedWith}
 use Rattle.grib_migrate_law.proofs.Migrated.{chosen_is_message, chosen_one_field, chosen_meaning}
 use Rattle.grib_repack.specs.declared.target.RepackTarget.{RepackTarget}
 use Rattle.grib_repack.specs.Faults.{target_of}
-use Rattle.grib_repack.specs.Repacked.{MayBeRepacked, repacked, repack_misfit}
+use Rattle.grib_repack.specs.Repacked.{HasPacking, MayBeRepacked, repacked, repack_misfit}
 use Rattle.grib_stream.specs.declared.place.Place.{Place}
 use Rattle.grib_stream.specs.Acts.{Act, Writes, Makes, Adds, writes, written}
 use Rattle.grib_stream.specs.Stream.{Found}
@@ -82,7 +82,7 @@ read_wrote (Some field) message place next acts more is = let no : ⊥ = cc in a
 
 -- ---- `repack`
 
-module _ (profile : Profile) (target : RepackTarget) (law : (message : List ℕ) → MayBeRepacked profile (target_of target) message → SameValues profile message (repacked (target_of target) message)) (stands : IsTarget (target_of target)) where
+module _ (profile : Profile) (target : RepackTarget) (law : (message : List ℕ) → MayBeRepacked profile (target_of target) message → SameValues profile message (repacked (target_of target) message)) (stands : IsTarget (target_of target)) (has : HasPacking profile (target_of target)) where
   repack_by : (b : Bool) (place : Place) (found : Found) (acts : List Act) (more : ℕ) → IsAccepted profile found → (edition found.octets == 1) ≡ b
       → choose b (λ _. (repack_command target).first place found.octets) (λ _. (repack_command target).second place found.octets) ≡ Gives acts more
       → IfOctets (SameValues profile) found.octets (written acts)
@@ -93,7 +93,7 @@ module _ (profile : Profile) (target : RepackTarget) (law : (message : List ℕ)
       let (none, same) = unless_wrote (option_map cause_of (repack_misfit (target_of target) found.octets)) place.message (repacked (target_of target) found.octets) acts more read.1 in
       subst (SameValues profile found.octets) same
       (law found.octets
-      (record { accepted = accepted.second not_one; readable = none_opaque found.octets read.0; are_octets = small; target_stands = stands; fits = unmapped cause_of (repack_misfit (target_of target) found.octets) none }))
+      (record { accepted = accepted.second not_one; readable = none_opaque found.octets read.0; are_octets = small; target_stands = stands; packing = has; fits = unmapped cause_of (repack_misfit (target_of target) found.octets) none }))
 
   pub repack_each : WritesEach (IfOctets (SameValues profile)) (under profile (repack_command target))
   repack_each place found acts more accepted is = repack_by (edition found.octets == 1) place found acts more accepted refl is

@@ -27,6 +27,8 @@ use Rattle.grib_command.specs.Command.{Command, under}
 use Rattle.grib_command.specs.Jobs.{IsJob, CanChange, is_target}
 use Rattle.grib_edit.specs.Filtering.{filter_command}
 use Rattle.grib_edit.specs.Migrating.{migrate_command}
+use Rattle.grib_repack.specs.Faults.{target_of}
+use Rattle.grib_repack.specs.Repacked.{HasPacking}
 use Rattle.grib_edit.specs.Repacking.{repack_command}
 use Rattle.grib_edit.specs.Setting.{set_command}
 use Rattle.grib_edit.specs.Splitting.{split_command}
@@ -142,7 +144,7 @@ leaves_names profile out policy outcome before now reading = record {
 
 -- ---- a job
 
-module _ (profile : Profile) (stand : ItemsStand profile) (repacked : (target : RepackTarget) (policy : Policy) (more : Bool) (octets : List ℕ) → is_target target ≡ true → Writes (IfOctets (SameValues profile)) (under profile (repack_command target)) policy more octets) (migrated : (local : Local) (table : Entries) (surfaces : SurfaceEntries) (policy : Policy) (more : Bool) (octets : List ℕ) → Writes (IfOctets (SameMigrated profile)) (under profile (migrate_command local table surfaces)) policy more octets) (set : (changes : List Change) (policy : Policy) (more : Bool) (octets : List ℕ) → CanChange changes → Writes (SetsKeys profile changes) (under profile (set_command changes)) policy more octets) (filtered : (conditions : List Wanted) (policy : Policy) (more : Bool) (octets : List ℕ) → Writes (IsFiltered profile conditions) (under profile (filter_command conditions)) policy more octets) where
+module _ (profile : Profile) (stand : ItemsStand profile) (repacked : (target : RepackTarget) (policy : Policy) (more : Bool) (octets : List ℕ) → is_target target ≡ true → HasPacking profile (target_of target) → Writes (IfOctets (SameValues profile)) (under profile (repack_command target)) policy more octets) (migrated : (local : Local) (table : Entries) (surfaces : SurfaceEntries) (policy : Policy) (more : Bool) (octets : List ℕ) → Writes (IfOctets (SameMigrated profile)) (under profile (migrate_command local table surfaces)) policy more octets) (set : (changes : List Change) (policy : Policy) (more : Bool) (octets : List ℕ) → CanChange changes → Writes (SetsKeys profile changes) (under profile (set_command changes)) policy more octets) (filtered : (conditions : List Wanted) (policy : Policy) (more : Bool) (octets : List ℕ) → Writes (IsFiltered profile conditions) (under profile (filter_command conditions)) policy more octets) where
   of_octets : (Is : List ℕ → List ℕ → Type 0) (command : Command) (policy : Policy) (more : Bool) (octets : List ℕ) → AreOctets octets
       → Writes (IfOctets Is) (under profile command) policy more octets → Writes Is (under profile command) policy more octets
   of_octets Is command policy more octets small wrote =
@@ -170,10 +172,10 @@ module _ (profile : Profile) (stand : ItemsStand profile) (repacked : (target : 
   job_leaves (Set changes) policy outcome before now is reading = λ unbroken.
       leaves (SetsKeys profile changes) (SetsKeys profile changes) (under profile (set_command changes)) policy outcome before now (λ more octets. set changes policy more octets is.changes_stand)
       (λ more octets small wrote. wrote) reading unbroken
-  job_leaves (Repack target) policy outcome before now is reading = λ unbroken.
-      leaves (IfOctets (SameValues profile)) (SameValues profile) (under profile (repack_command target)) policy outcome before now (λ more octets. repacked target policy more octets is.target_stands)
+  job_leaves (Repack target) policy outcome before now is reading = λ unbroken has.
+      leaves (IfOctets (SameValues profile)) (SameValues profile) (under profile (repack_command target)) policy outcome before now (λ more octets. repacked target policy more octets is.target_stands has)
       (of_octets (SameValues profile) (repack_command target) policy) reading unbroken
-  job_leaves RepackLeast policy outcome before now is answers = tt
+  job_leaves (RepackLeast tried) policy outcome before now is answers = tt
   job_leaves Rescan policy outcome before now is answers = tt
   job_leaves (Crop area) policy outcome before now is answers = tt
   job_leaves (Migrate params surfaces local) policy outcome before now is (texts, stood, answers) = λ unbroken.

@@ -7,7 +7,7 @@ abbrev pub writes_each : Job → Bool
 writes_each (Filter conditions) = true
 writes_each (Set changes) = true
 writes_each (Repack target) = true
-writes_each RepackLeast = true
+writes_each (RepackLeast profile) = true
 writes_each Rescan = true
 writes_each (Crop area) = true
 writes_each (Migrate params surfaces local) = true

@@ -11,6 +11,8 @@ use Rattle.grib_items.specs.Laws.{is_whole}
 use Rattle.grib_command.specs.declared.job.Job.{Job}
 use Rattle.grib_command.specs.declared.job.Job.TheVariants.{Filter, Split, Set, Repack, Migrate}
 use Rattle.grib_command.specs.Command.{Command, under}
+use Rattle.grib_repack.specs.Faults.{target_of}
+use Rattle.grib_repack.specs.Repacked.{HasPacking}
 use Rattle.grib_edit.specs.Filtering.{filter_command}
 use Rattle.grib_edit.specs.Repacking.{repack_command}
 use Rattle.grib_edit.specs.Setting.{set_command}
@@ -44,7 +46,8 @@ IfGood P (SurfacesRefused refusal) = Unit {0}
 
 -- What is written for messages where neither a device nor memory ended the run, and for `split` what stands on the shelf,
 -- however it ended. `repack` and `migrate` read numbers: by what an input tells this is said of messages whose octets are
--- below 256, and all that are taken are. Of the other jobs nothing is said here.
+-- below 256, and all that are taken are. `repack` is to a packing that the profile has. Of the other jobs nothing is said
+-- here.
 abbrev pub Leaves : Profile → Job → Policy → Outcome → Seen → Seen → Type 0
 Leaves profile (Filter conditions) policy outcome before now =
     is_broken outcome ≡ false
@@ -53,7 +56,7 @@ Leaves profile (Set changes) policy outcome before now =
     is_broken outcome ≡ false
     → LeavesItems (SetsKeys profile changes) (SetsKeys profile changes) (under profile (set_command changes)) policy outcome before now
 Leaves profile (Repack target) policy outcome before now =
-    is_broken outcome ≡ false
+    is_broken outcome ≡ false → HasPacking profile (target_of target)
     → LeavesItems (IfOctets (SameValues profile)) (SameValues profile) (under profile (repack_command target)) policy outcome before now
 Leaves profile (Migrate params surfaces local) policy outcome before now =
     is_broken outcome ≡ false

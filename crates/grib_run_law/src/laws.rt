@@ -38,16 +38,19 @@ ghost use Rattle.grib_run_law.specs.Plain.{IsPlainly};
 ghost use Rattle.grib_run_law.specs.Same.{SameValues, SameMigrated, SetsKeys, IsFiltered, IfOctets};
 ghost use Rattle.grib_run_law.specs.Shelved.{SplitsFields, parts_within, OfNames, StandFirst, StandAll};
 ghost use Rattle.grib_run_law.specs.Written.{Writes, stated_of};
+ghost use Rattle.grib_repack.specs.Faults.{target_of};
+ghost use Rattle.grib_repack.specs.Repacked.{HasPacking};
 
 use grib_items::laws::{items_stand, nothing_is_passed};
 use grib_repack::laws::what_is_repacked_keeps_each_value as what_is_packed_anew_keeps_each_value;
 use grib_select::laws::{what_is_cut_out_keeps_its_column, what_is_set_keeps_each_column};
 use grib_stream::laws::each_outcome_has_its_note;
 
-/// What `repack` writes is, for each item until the run ends, a message with the same values, or what stands for a message
+/// What `repack` to a packing that the profile has writes is, for each item until the run ends, a message with the same values, or what stands for a message
 /// that cannot be changed, or what the policy has for octets that are refused.
 pub fn what_is_repacked_keeps_each_value()
     ensures { (profile : Profile) (target : RepackTarget) (policy : Policy) (more : Bool) (octets : List ℕ) → is_target target ≡ true
+        → HasPacking profile (target_of target)
         → Writes (IfOctets (SameValues profile)) (under profile (repack_command target)) policy more octets }
 {
     items_stand();

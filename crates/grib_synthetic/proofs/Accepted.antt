@@ -6,7 +6,8 @@ use Rattle.grib_base.specs.Rows.{first_fault, located}
 use Rattle.grib_bitmap.specs.Mask.{bitmap_rows, mask_of}
 use Rattle.grib_packing.specs.declared.column.Column.{Column}
 use Rattle.grib_packing.specs.Packing.{value_count}
-use Rattle.grib_packing.specs.Entries.{packing_fault, data_fault, column_from}
+use Rattle.grib_packing.specs.Entries.{packing_fault_under, is_stated_packing, data_fault, column_from}
+use Rattle.grib_packing.proofs.OpaquePackings.{accepted_stated}
 use Rattle.grib_packing.specs.Laws.{UnpackTo}
 use Rattle.grib_base.specs.declared.profile.Profile.TheVariants.{Stated}
 use Rattle.grib2_sections.specs.Frame.{Placed, placed_at, section_number, may_follow, may_end}
@@ -40,6 +41,7 @@ pub record Parts (ni nj : ℕ) (column : Column) (s5 s6 s7 : List ℕ) : Type 0 
   pub itself_5 : StatesItself 5 s5
   pub itself_6 : StatesItself 6 s6
   pub itself_7 : StatesItself 7 s7
+  pub stated : is_stated_packing s5 ≡ true
   pub back : UnpackTo column s5 s6 s7
   pub short : length s5 + length s6 + length s7 ≤ 268435000
 
@@ -99,8 +101,8 @@ module _ (seed ni nj : ℕ) (column : Column) (s5 s6 s7 : List ℕ) (may : MayBe
     least = parts.itself_5.least;
     follows = ap (may_follow 4) parts.itself_5.number_stands;
     rows_hold = fault_of Stated (before_5 ni nj s5 s6 s7) (placed_at 144 s5) 5 parts.itself_5.number_stands
-        ∙ ap (λ (points : ℕ). located 144 (packing_fault s5 points)) (points_5 seed ni nj column s5 s6 s7 may parts)
-        ∙ ap (located 144) parts.back.representation;
+        ∙ ap (λ (points : ℕ). located 144 (packing_fault_under Stated s5 points)) (points_5 seed ni nj column s5 s6 s7 may parts)
+        ∙ ap (located 144) (accepted_stated Stated s5 (length column.points) parts.stated parts.back.representation);
   }
 
   is_6 : IsSection Stated (before_6 ni nj s5 s6 s7) (144 + length s5) s6

@@ -12,7 +12,7 @@ use Rattle.grib_packing.specs.declared.column.Point.{Point}
 use Rattle.grib_packing.specs.declared.column.Point.TheVariants.{Scaled, Missing, Missing2}
 use Rattle.grib_packing.specs.Differences.{lesser, least, least_of, difference_at, differences, code_at, difference_codes}
 use Rattle.grib_packing.specs.Entries.{is_out_of_range}
-use Rattle.grib_packing.specs.Misfits.{Misfit, SecondaryMissing, OutOfRange, Target, ToSimple, ToComplex, ToSpatial, misfit_at, first_misfit, is_missing, is_missing2, is_outside, is_scaled_outside, scaled_numbers, management_of, greatest_code, are_differences_out}
+use Rattle.grib_packing.specs.Misfits.{Misfit, SecondaryMissing, OutOfRange, Target, ToSimple, ToComplex, ToSpatial, ToCoded, misfit_at, first_misfit, is_missing, is_missing2, is_outside, is_scaled_outside, scaled_numbers, management_of, greatest_code, are_differences_out}
 use Rattle.grib_packing.specs.Written.{MayBePacked}
 use Rattle.grib_synthetic.specs.Points.{made_point, made_points, made_column}
 use Rattle.grib_synthetic.specs.Made.{MayBeMade}
@@ -166,6 +166,9 @@ small_fits ToComplex points small =
     no_misfit OutOfRange (is_scaled_outside (greatest_code (management_of points))) points (none_outside points small (greatest_code (management_of points)) (omega arith))
 small_fits (ToSpatial order) points small =
     rw (none_differs_out (scaled_numbers points) (numbers_inside points small) order (management_of points) (few_reserved points)) refl
+small_fits (ToCoded block interval) points small =
+    rw (no_misfit SecondaryMissing is_missing2 points (none_secondary points small))
+    (no_misfit OutOfRange (is_scaled_outside (2 ^ 32 - 1)) points (none_outside points small (2 ^ 32 - 1) (omega arith)))
 
 in_range : (point : Point) → IsSmall point → is_out_of_range point ≡ false
 in_range (Scaled x) small = let near = near_inside x small.inside in le-ltb (2 ^ 60) (nat_abs x) (omega arith)

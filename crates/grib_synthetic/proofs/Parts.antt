@@ -12,6 +12,7 @@ use Rattle.grib_packed.specs.Written.{HasWords, packed}
 use Rattle.grib_packed.proofs.Short.{simple_short}
 use Rattle.grib_packed.proofs.Written.{simple_only, simple_written}
 use Rattle.grib_synthetic.specs.Points.{made_column, made_points}
+use Rattle.grib_packing.specs.Entries.{packing_of}
 use Rattle.grib_synthetic.specs.Made.{MayBeMade, made}
 use Rattle.grib_synthetic.proofs.Accepted.{Parts, message_of_parts}
 use Rattle.grib_synthetic.proofs.Fitting.{made_fits, made_may_be_packed, length-made_points}
@@ -24,7 +25,7 @@ made_words seed ni nj = record { reference = omega arith; binary_scale = omega a
 
 -- it has few octets,
 parts_few : (seed ni nj : ℕ) → MayBeMade seed ni nj
-    → let p = packed ToSimple (made_column seed ni nj) 0 in length p.section5 + length p.section6 + length p.section7 ≤ 11 * length (made_column seed ni nj).points + 200
+    → let p = packed ToSimple (made_column seed ni nj) 0 in length p.section5 + length p.section6 + length p.section7 ≤ 11 * length (made_column seed ni nj).points + 300
 unfolding packed
 parts_few seed ni nj may = simple_short (made_column seed ni nj) 0 (made_may_be_packed seed ni nj may) (made_fits ToSimple seed ni nj)
 
@@ -55,6 +56,7 @@ made_parts seed ni nj may reads =
       itself_5 = packing.numbers.itself;
       itself_6 = packing.bitmap.itself;
       itself_7 = packing.values.itself;
+      stated = ap (λ (t : ℕ). (packing_of t).stated) packing.numbers.template_stands;
       back = reads (made_column seed ni nj) 0 p.section5 p.section6 p.section7 (made_may_be_packed seed ni nj may) (made_fits ToSimple seed ni nj) packing;
       short = parts_short seed ni nj may;
     }

@@ -1,9 +1,9 @@
 //! The grid and the packing of a field.
 
 ghost use Rattle.std.specs.Prelude.{◌≡◌, Some};
-ghost use Rattle.grib_packing.specs.Entries.{is_packing};
 ghost use Rattle.grib_text.specs.Lines as lines;
 
+use grib_packing::is_read;
 use grib2_message::FieldSummary;
 use std::fmt;
 
@@ -53,7 +53,7 @@ impl Packing {
     {
         Packing {
             template: summary.packing,
-            bits: is_stated(summary.packing).then_some(summary.bits),
+            bits: is_read(summary.packing).then_some(summary.bits),
             values: summary.values,
         }
     }
@@ -73,11 +73,4 @@ impl fmt::Display for Packing {
             None => write!(f, "packing=5.{template} values={values}"),
         }
     }
-}
-
-/// Whether a packing with this template (code table 5.0) is not opaque.
-fn is_stated(template: u16) -> bool
-    ensures { result ≡ is_packing template }
-{
-    matches!(template, 0 | 2 | 3)
 }

@@ -11,7 +11,7 @@ pub(crate) const COMMANDS: [&str; 17] = [
     "filter KEY=VALUES .. KEY!=VALUES .. [refused=copy|pass] [kept=copy|pass] [profile=open]: The fields that have these values, copied octet for octet.\nVALUES is a value, a list as 1,2 or a range as 0..24. A value is a whole number, as 98, 0 or -5, or missing.\nAll keys: grib help keys. The values that the fields of a file have: grib keys < FILE\nExample: grib filter surface1=100 surface1Scale=0 surface1Value=50000 < FILE > level500\n",
     "set KEY=VALUE .. [refused=copy|pass] [kept=copy|pass] [profile=open]: Each message with new values of these keys, all other octets copied.\n",
     "split out=NAME [refused=copy|pass] [kept=copy|pass] [profile=open]: The n-th field of the input becomes the file NAME.n; nothing goes to standard output.\n",
-    "repack to=0|2|3|least [order=1|2] [refused=copy|pass] [kept=copy|pass] [profile=open]: Each message in simple packing (to=0), complex packing (to=2) or complex packing with spatial differencing (to=3 with order=1 or order=2), or each field in the smallest of these, or as it is (to=least). Every value and every missing value is preserved.\n",
+    "repack to=0|2|3|42|least [order=1|2] [refused=copy|pass] [kept=copy|pass] [profile=open]: Each message in simple packing (to=0), complex packing (to=2), complex packing with spatial differencing (to=3 with order=1 or order=2) or CCSDS packing (to=42 with profile=open), or each field in the smallest of these, or as it is (to=least). Every value and every missing value is preserved.\n",
     "rescan [refused=copy|pass] [kept=copy|pass] [profile=open]: Each message with its points from west to east and from north to south, on regular latitude/longitude grids.\n",
     "crop i0=N i1=N j0=N j1=N [refused=copy|pass] [kept=copy|pass] [profile=open]: The grid columns i0 to i1 and the rows j0 to j1 of each message on such a grid in that order, counted from 0.\n",
     "migrate params=FILE [surfaces=FILE] [local=keep|ecmwf] [refused=copy|pass] [kept=copy|pass] [profile=open]: Each message of edition 1 as one of edition 2 with the same values, by a parameter table; messages of edition 2 are copied. With surfaces= a second table gives parameters and fixed surfaces whose name says a level. With local=keep the local part of Section 1 becomes Section 2, with local=ecmwf the labels of ECMWF as edition 2 has them.\n",
@@ -77,7 +77,7 @@ pub(crate) const KEYS: [&str; 51] = [
 ];
 
 /// Why a message is refused.
-pub(crate) const REFUSALS: [&str; 38] = [
+pub(crate) const REFUSALS: [&str; 39] = [
     "refusals are the reasons in a line refused message <m> octet <o> <Reason> <detail>:\n",
     "Truncated           refused: the input ends within the message; it was cut, or a transfer broke off\n",
     "Edition             refused: octet 8 is neither 1 nor 2; not a GRIB message of these editions, or damaged\n",
@@ -92,7 +92,7 @@ pub(crate) const REFUSALS: [&str; 38] = [
     "PackingTemplate     refused: the packing template, which is the detail, is not supported; the message may be valid, and profile=open accepts it\n",
     "Jpeg2000            refused: the data are packed by JPEG 2000 (5.40), which is not supported; the message may be valid, and profile=open accepts it\n",
     "PngPacked           refused: the data are packed by PNG (5.41), which is not supported; the message may be valid, and profile=open accepts it\n",
-    "Ccsds               refused: the data are packed by CCSDS (5.42), which is not supported; the message may be valid, and profile=open accepts it\n",
+    "Ccsds               refused: the data are packed by CCSDS (5.42), which profile=open reads; with profile=open, what the blocks are coded by is outside what the format allows\n",
     "ReferenceNotFinite  refused: a number is outside what the format or its limits here allow\n",
     "BitmapIndicator     refused: a bitmap that the centre defines, or damaged\n",
     "NoEarlierBitmap     refused: a field repeats a bitmap that does not stand in its message\n",
@@ -116,6 +116,7 @@ pub(crate) const REFUSALS: [&str; 38] = [
     "SecondOrder         refused: edition 1 in second-order packing, which is not supported; the message may be valid\n",
     "Harmonics           refused: edition 1 with spherical harmonics, which are not supported; the message may be valid\n",
     "ExtraFlags          refused: edition 1 with extra flags, which are not supported; the message may be valid\n",
+    "BlockCode           refused with profile=open: the coded blocks of CCSDS packing (5.42) are damaged, or written wrongly; the detail is the block\n",
 ];
 
 /// Why a message that is accepted is not changed or printed as asked.

@@ -54,6 +54,8 @@ fn repack_deed(words: &[String]) -> &'static str
         "writes each message in complex packing"
     } else if has_word(words, "to=3") {
         "writes each message in complex packing with spatial differencing"
+    } else if has_word(words, "to=42") {
+        "writes each message in CCSDS packing"
     } else {
         "writes each field in the smallest of the packings, or as it is"
     }

@@ -317,7 +317,7 @@ fn repack_rule(name: &str) -> &'static str
     ensures { result.now ≡ helping.repack_rule name.now }
 {
     match name {
-        "to" => "0, 2, 3 or least",
+        "to" => "0, 2, 3, 42 or least",
         _ => own_rule(name),
     }
 }

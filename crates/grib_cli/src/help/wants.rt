@@ -28,7 +28,7 @@ pub(super) fn wanted(
             &["seed", "ni", "nj", "to"],
             order_wanted(words),
         ),
-        Command::Repack => named_or(alloc, words, &["to"], order_wanted(words)),
+        Command::Repack => named_or(alloc, words, &["to"], beside_to(words)),
         Command::Split => named_or(alloc, words, &["out"], ""),
         Command::Migrate | Command::Demote => named_or(alloc, words, &["params"], ""),
         _ => String::from_str(
@@ -46,6 +46,17 @@ fn order_wanted(words: &[String]) -> &'static str
         "order=1 or order=2 beside to=3"
     } else {
         "order= beside to=3 alone"
+    }
+}
+
+/// What goes with `to` of `repack`: the profile that has the packing, or the order.
+fn beside_to(words: &[String]) -> &'static str
+    ensures { result.now ≡ helping.beside_to (map string_bytes words.now) }
+{
+    if has_word(words, "to=42") && !has_word(words, "profile=open") {
+        "profile=open beside to=42"
+    } else {
+        order_wanted(words)
     }
 }
 

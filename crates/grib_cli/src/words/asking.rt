@@ -8,6 +8,7 @@ ghost use Rattle.grib_cli.specs.Words as asked;
 ghost use Rattle.std.specs.declared.option.Option.TheVariants.{Some};
 
 use super::command::Command;
+use super::policy::profile_of;
 use super::values::{key_value, number_of};
 use super::wanted::conditions_of;
 use super::{JobFault, has_name, is_named};
@@ -140,11 +141,12 @@ fn repack_of(words: &[String]) -> Job
     requires { is (codes "least") (grammar.value_of (codes "to") (map string_bytes words.now)) ≡ false
         → is (codes "0") (grammar.value_of (codes "to") (map string_bytes words.now)) ≡ false
         → is (codes "2") (grammar.value_of (codes "to") (map string_bytes words.now)) ≡ false
+        → is (codes "42") (grammar.value_of (codes "to") (map string_bytes words.now)) ≡ false
         → is_between 1 2 (grammar.value_of (codes "order") (map string_bytes words.now)) ≡ true }
     ensures { result ≡ asked.repack_of (map string_bytes words.now) }
 {
     if value_of(words, "to") == "least" {
-        Job::RepackLeast
+        Job::RepackLeast(profile_of(words))
     } else {
         Job::Repack(target_of(words))
     }
@@ -154,12 +156,17 @@ fn repack_of(words: &[String]) -> Job
 fn target_of(words: &[String]) -> RepackTarget
     requires { is (codes "0") (grammar.value_of (codes "to") (map string_bytes words.now)) ≡ false
         → is (codes "2") (grammar.value_of (codes "to") (map string_bytes words.now)) ≡ false
+        → is (codes "42") (grammar.value_of (codes "to") (map string_bytes words.now)) ≡ false
         → is_between 1 2 (grammar.value_of (codes "order") (map string_bytes words.now)) ≡ true }
     ensures { result ≡ asked.target_of (map string_bytes words.now) }
 {
     match value_of(words, "to") {
         "0" => RepackTarget::Simple,
         "2" => RepackTarget::Complex,
+        "42" => RepackTarget::Coded {
+            block: 32,
+            interval: 128,
+        },
         _ => RepackTarget::Spatial(number_by(words, "order") as u8),
     }
 }

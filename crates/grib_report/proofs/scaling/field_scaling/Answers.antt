@@ -21,6 +21,5 @@ returns-clause-small c =
     let s5 = part_octets m i 5 in
     let s7 = part_octets m i 7 in
     let passes = c.part.ensures.passes in
-    let packing = packing_passes s5 (grid_points (part_octets m i 3)) passes.packing in
     any_of_none is_out_of_range (points_with_mask (field_mask m i) (entries_of s5 s7))
-    (none_with_mask (field_mask m i) (entries_of s5 s7) (entries_within s5 s7 _ packing passes.values))
+    (none_with_mask (field_mask m i) (entries_of s5 s7) (entries_within s5 s7 _ passes.packing passes.values))
