@@ -20,6 +20,9 @@ use grib_packings::{Feeder, Representation};
 use std::alloc::Global;
 use std::env::Args;
 
+/// The points that a grid has at most.
+const MOST_POINTS: u32 = 33_554_432;
+
 /// One of this many points is looked at.
 const STEP: usize = 4096;
 
@@ -162,6 +165,7 @@ fn fed_column(
     let section5 = grouped(representation, mask.len(), ones(mask))?;
     let section7 = section(7, data)?;
     ensure!(size >= 1, "a piece has an octet at least");
+    ensure!(mask.len() <= MOST_POINTS, "too many points");
     let length = BigEndian::read_u32(section7.octets);
     let mut feeder = Feeder::new(alloc, &section5, mask.copy(alloc)?, section7.start, length)?;
     for piece in section7.octets[5..].chunks(size) {
@@ -177,6 +181,7 @@ fn fed_column(
 fn accepted(alloc: Global, representation: &[u8], points: u32, data: &[u8]) -> Result<u64> {
     let section5 = section(5, representation)?;
     let section7 = section(7, data)?;
+    ensure!(points <= MOST_POINTS, "too many points");
     let Ok(representation) = Representation::read(&section5, points) else {
         bail!("Section 5 is refused");
     };

@@ -59,6 +59,10 @@ pub fn column(alloc: Global, representation: &[u8], mask: &Mask, data: &[u8]) ->
     let column = if simple.template == 0 {
         column_by(&SimplePacking, alloc, &section5, mask, &section7)
     } else {
+        ensure!(
+            simple.template == 2 || simple.template == 3,
+            "neither simple nor complex packing"
+        );
         let Ok(_complex) = read_complex(&section5, mask.len()) else {
             bail!("the groups are refused");
         };

@@ -5,3 +5,4 @@ pub mod Changes
 pub mod Columns
 pub mod Values
 pub mod Edition1
+pub mod Coded

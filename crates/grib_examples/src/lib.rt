@@ -5,6 +5,7 @@
 pub mod acceptance;
 pub mod answers;
 pub mod changes;
+pub mod coded;
 pub mod columns;
 pub mod edition1;
 pub mod grammar;

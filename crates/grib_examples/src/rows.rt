@@ -9,7 +9,8 @@ ghost use Rattle.grib2_sections.specs.Identification.{identification_rows};
 ghost use Rattle.grib2_grids.specs.Grid.{grid_rows, row_list};
 ghost use Rattle.grib2_products.specs.Product.{product_rows, product_length};
 ghost use Rattle.grib_bitmap.specs.Mask.{bitmap_rows, mask_of};
-ghost use Rattle.grib_packing.specs.Entries.{packing_fault, data_fault};
+ghost use Rattle.grib_base.specs.declared.profile.Profile.TheVariants.{Stated};
+ghost use Rattle.grib_packing.specs.Entries.{packing_fault, packing_fault_under, data_fault};
 ghost use Rattle.grib2_message.specs.Acceptance.{verdict_2};
 ghost use Rattle.grib_examples.specs.Hex.{hex, put};
 ghost use Rattle.grib_examples.specs.Messages.{identification, grid, product, representation, no_bitmap, marks_only, differences, interval};
@@ -55,9 +56,9 @@ pub fn product_count()
 
 /// Other packings that are left out, and more values than points.
 pub fn refused_packings()
-    ensures jpeg_2000 { located 144 (packing_fault (put representation 10 (hex "0028")) 4) ≡ Some (refusal 153 Jpeg2000 40) }
-    ensures ccsds { located 144 (packing_fault (put representation 10 (hex "002A")) 4) ≡ Some (refusal 153 Ccsds 42) }
-    ensures matrix { located 144 (packing_fault (put representation 10 (hex "0001")) 4) ≡ Some (refusal 153 PackingTemplate 1) }
+    ensures jpeg_2000 { located 144 (packing_fault_under Stated (put representation 10 (hex "0028")) 4) ≡ Some (refusal 153 Jpeg2000 40) }
+    ensures ccsds { located 144 (packing_fault_under Stated (put representation 10 (hex "002A")) 4) ≡ Some (refusal 153 Ccsds 42) }
+    ensures matrix { located 144 (packing_fault_under Stated (put representation 10 (hex "0001")) 4) ≡ Some (refusal 153 PackingTemplate 1) }
     ensures values { located 144 (packing_fault representation 3) ≡ Some (refusal 149 ValueCount 4) }
 {}
 

@@ -17,6 +17,7 @@ fn reasons_have_their_numbers(rt: HostRuntime) {
         (Reason::BitmapIndicator, 16),
         (Reason::DataTooShort, 27),
         (Reason::ExtraFlags, 37),
+        (Reason::BlockCode, 38),
     ];
     for (reason, number) in table {
         assert_eq!(rt; reason.number(), number);

@@ -99,7 +99,7 @@ const VALUES_AT_FAULT: [(&str, &str); 11] = [
     ),
     (
         "help repack to=ccsds",
-        "word 1 \"to=ccsds\": to is 0, 2, 3 or least\n",
+        "word 1 \"to=ccsds\": to is 0, 2, 3, 42 or least\n",
     ),
     (
         "help make to=least",

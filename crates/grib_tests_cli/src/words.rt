@@ -26,7 +26,7 @@ fn command_of(asked: &Result<Job, JobFault>) -> &'static str {
         Ok(Job::Filter(_)) => "filter",
         Ok(Job::Split(_)) => "split",
         Ok(Job::Set(_)) => "set",
-        Ok(Job::Repack(_) | Job::RepackLeast) => "repack",
+        Ok(Job::Repack(_) | Job::RepackLeast(_)) => "repack",
         Ok(Job::Migrate { .. }) => "migrate",
         Ok(Job::Demote { .. }) => "demote",
         Ok(Job::Rescan) => "rescan",

@@ -80,9 +80,14 @@ fn large_fields_are_put_under_names(rt: HostRuntime) -> Result<(), Fail> {
 
 // Whether messages that are packed by these words come back by simple packing, which they have.
 fn come_back(alloc: Global, words: &str) -> Result<bool, AllocError> {
+    come_back_by(alloc, words, "repack to=0")
+}
+
+// Whether they come back by these words.
+fn come_back_by(alloc: Global, words: &str, back: &str) -> Result<bool, AllocError> {
     let octets = five(alloc)?;
     let packed = ran(alloc, words, octets.as_slice())?;
-    let back = ran(alloc, "repack to=0", packed.output.octets())?;
+    let back = ran(alloc, back, packed.output.octets())?;
     Ok(packed.outcome == Outcome::Done && back.gave(Outcome::Done, octets.as_slice(), ALL_WRITTEN))
 }
 
@@ -97,5 +102,13 @@ fn large_messages_are_packed_anew(rt: HostRuntime) -> Result<(), Fail> {
 fn large_messages_are_packed_by_differences(rt: HostRuntime) -> Result<(), Fail> {
     assert!(rt; come_back(rt.alloc(), "repack to=3 order=1")?);
     assert!(rt; come_back(rt.alloc(), "repack to=3 order=2")?);
+    Ok(())
+}
+
+// CCSDS packing is of the open profile.
+#[test]
+fn large_messages_are_packed_in_blocks(rt: HostRuntime) -> Result<(), Fail> {
+    let back = "repack to=0 profile=open";
+    assert!(rt; come_back_by(rt.alloc(), "repack to=42 profile=open", back)?);
     Ok(())
 }

@@ -4,6 +4,8 @@
 #[cfg(test)]
 mod arguments;
 #[cfg(test)]
+mod ccsds;
+#[cfg(test)]
 mod changes;
 #[cfg(test)]
 mod lines;

@@ -301,15 +301,15 @@ fn without_the_word_they_are_refused_as_ever(rt: HostRuntime) -> Result<(), Fail
     Ok(())
 }
 
-// 5.42 is CCSDS. What is damaged is skipped under the open profile too, and what is whole behind it found.
+// 5.41 is PNG. What is damaged is skipped under the open profile too, and what is whole behind it found.
 #[test]
 fn what_is_damaged_is_skipped(rt: HostRuntime) -> Result<(), Fail> {
     let alloc = rt.alloc();
-    let ccsds = edited(alloc, &PLAIN, &[(154, 42)])?;
-    let mut octets = ccsds.as_slice().to_vec(alloc)?;
+    let png = edited(alloc, &PLAIN, &[(154, 41)])?;
+    let mut octets = png.as_slice().to_vec(alloc)?;
     octets.extend_from_slice(edited(alloc, &PLAIN, &[(47, 5)])?.as_slice())?;
     octets.extend_from_slice(opaque(alloc)?.as_slice())?;
-    let mut wanted = ccsds;
+    let mut wanted = png;
     wanted.extend_from_slice(opaque(alloc)?.as_slice())?;
     let outcome = Outcome::Passed {
         refused: 1,

@@ -124,6 +124,7 @@ fn feeder(
     ensures { IsFed PointsKept result }
 {
     assert!(rt; length >= 5 && start >= 1 && start <= 268_435_456);
+    assert!(rt; mask.len() <= 33_554_432);
     let Ok(copy) = mask.copy(alloc) else {
         panic!(rt; "there is no memory for the mask");
     };
@@ -184,6 +185,7 @@ fn checked_from(
     size: usize,
 ) -> Result<(), Fault> {
     let section5 = section(rt, 5, 144, representation);
+    assert!(rt; points <= 33_554_432);
     let Ok(representation) = Representation::read(&section5, points) else {
         panic!(rt; "the representation is refused");
     };
@@ -437,6 +439,7 @@ fn accepted(
 ) -> Result<(), ReadFault> {
     let section5 = section(rt, 5, 144, representation);
     let section7 = section(rt, 7, 200, data);
+    assert!(rt; points <= 33_554_432);
     let Ok(representation) = Representation::read(&section5, points) else {
         panic!(rt; "the representation is refused");
     };
