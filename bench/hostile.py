@@ -1,14 +1,16 @@
 #!/usr/bin/env python3
 """Gives a program damaged messages in hostile ways, and holds each run to what has to be true of any run.
 
-    bench/hostile.py PROGRAM FILE.. [runs=10000] [seed=1] [jobs=1] [case=N] [keep=FOLDER]
+    bench/hostile.py PROGRAM FILE.. [profile=stated] [runs=10000] [seed=1] [jobs=1] [case=N] [keep=FOLDER]
 
-A case takes a few messages of the files, of docs/WORKED.md and of `make`, damages them (cuts, flips, splices,
-repeats, other lengths and counts, sizes that are claimed), and gives them to `check` and to one command with words that
+A case takes a few messages of the files, of docs/WORKED.md and of `make`, and some of them in CCSDS packing, damages them
+(cuts, flips, splices, repeats, other lengths and counts, sizes that are claimed, other packed data), and gives them to `check` and to one command with words that
 it may have, among them lists and ranges of filter, refused= and kept=: from a file,
 and in one more way: through a pipe in random pieces, to a reader that goes away, to a full device, to a closed
-output, with notes that cannot be written, with a directory as input or none, with 3 to 60 MB of address space. The
-cases hang on `seed` and their number alone; `case=N` runs one of them. `runs` is how often the program is started,
+output, with notes that cannot be written, with a directory as input or none, with 3 to 60 MB of address space. With
+`profile=open` each run of a command that reads messages has this argument, `to=42` is among the commands, and what the
+stated profile answers has to be what the open one answers, as far as it goes; with `profile=stated`, or nothing, no run has
+it. The cases hang on `seed`, the profile and their number alone; `case=N` runs one of them. `runs` is how often the program is started,
 `jobs` how many processes share the work; an interrupt ends it after the case at hand, with the sums so far. Each
 finding is a line, and its input is kept in the folder `keep` (hostile-findings), as small as cutting makes it.
 Commands that the program does not have yet are left out. Needs Python 3.8 and Linux."""
@@ -32,7 +34,9 @@ REASONS = """Truncated Edition TotalLength SectionLength SectionOrder GridSource
 ProductTemplate PackingTemplate Jpeg2000 PngPacked Ccsds ReferenceNotFinite BitmapIndicator NoEarlierBitmap BitmapSize
 ValueCount MissingManagement GroupCount GroupWidth GroupShape DifferenceOrder ExtraOctets FirstValueSign DataTooShort
 ScaledRange EndMark LengthDisagrees BitWidth FieldCount NoGridSection GridType SecondOrder Harmonics
-ExtraFlags""".split()
+ExtraFlags BlockCode""".split()
+# Why the stated profile refuses what the open one accepts, or tries by other rules.
+UNSTATED = "GridSource GridTemplate ProductTemplate PackingTemplate Jpeg2000 PngPacked Ccsds".split()
 LOSSES = r"(Parameter|LevelType|TimeUnit|TimeRange|Date|AverageCount|LocalUse|GridFlags|Reference|(GridNumber|Coordinate) \d+)"
 DEMOTIONS = r"(Product|GridTemplate|Centre|Parameter|Level|TimeUnit|Process|Date|Interval|LocalUse|EarthShape|GridFlags|RowList|Reference)"
 NUMBERED = r"(GridNumber|Coordinate|SecondaryMissing|OutOfRange|TooLong)"
@@ -44,10 +48,14 @@ CAUSES = {
     "dump": [r"DecimalRange field \d+ point \d+"],
 }
 CAUSES["rescan"] = CAUSES["crop"] = CAUSES["repack"] + [r"(GridKind|ScanMode|OutsideBox|Increments) field \d+"]
+PACKING = r"Packing (\d+) field \d+"  # of a field whose packing the open profile does not read
+READ_PACKINGS = (0, 2, 3, 42)
 TARGETS = (["to=0"], ["to=2"], ["to=3", "order=1"], ["to=3", "order=2"])
 COPIES = ("filter", "split", "set", "repack", "migrate", "demote", "rescan", "crop")
 READERS = ("check", "list", "keys", "stats", "dump")
+READ_VALUES = ("dump", "stats", "repack", "rescan", "crop", "demote")
 NO_INPUT = ("make", "help", "version", "--help", "--version")
+OPEN = []  # `profile=open`, where the runs are by the open profile
 FAULTS = {5: "read fault", 6: "", 7: "shelf fault", 8: "memory", 9: "input too long"}
 
 Run = collections.namedtuple("Run", "status output note octets seconds")
@@ -56,6 +64,11 @@ Run = collections.namedtuple("Run", "status output note octets seconds")
 def said_by_run(note, status):
     """A note without the line of a device that failed."""
     return re.sub(rb"^grib: [^\n]+: [^\n]+\n\Z", b"", note, flags=re.M) if status in (5, 6, 7) else note
+
+
+def given(words):
+    """The words that a run has: those of its case, and `profile=open` behind them where the command takes it."""
+    return words + OPEN if words and words[0] in COPIES + READERS else words
 
 
 class Wrong(Exception):
@@ -87,9 +100,11 @@ class Runner:
         hold(gaps or names == [f"part.{n}" for n in range(1, len(names) + 1)], "split wrote other names", names[:5])
         return [open(f"{self.shelf}/{name}", "rb").read() for name in names]
 
-    def run(self, words, data, way="file", draw=None):
-        """Runs the program on these words and octets. The output of a reader that goes away is what it read."""
+    def run(self, words, data, way="file", draw=None, stated=False):
+        """Runs the program on these words and octets, by the profile of all runs or by the stated one. The output of a
+        reader that goes away is what it read."""
         self.count += 1
+        words = words if stated else given(words)
         shutil.rmtree(self.shelf, ignore_errors=True)
         os.mkdir(self.shelf)
         names = {name: f"{self.work}/{name}" for name in ("input", "output", "note")}
@@ -215,8 +230,8 @@ PLACES = {
     2: {0: [(7, 1), (8, 1), (9, 8)], 1: [(1, 4), (5, 1), (13, 2), (15, 1)],
         3: [(1, 4), (6, 1), (7, 4), (11, 1), (12, 1), (13, 2), (31, 4), (35, 4), (39, 4), (47, 4), (55, 1), (64, 4), (68, 4), (72, 1)],
         4: [(1, 4), (6, 2), (8, 2), (18, 1), (19, 4), (23, 1), (24, 1), (25, 4), (42, 1), (46, 1)],
-        5: [(1, 4), (6, 4), (10, 2), (12, 4), (16, 2), (18, 2), (20, 1), (21, 1), (23, 1), (32, 4), (36, 1), (37, 1),
-            (38, 4), (42, 1), (43, 4), (47, 1), (48, 1), (49, 1)],
+        5: [(1, 4), (6, 4), (10, 2), (12, 4), (16, 2), (18, 2), (20, 1), (21, 1), (22, 1), (23, 1), (24, 2), (32, 4), (36, 1),
+            (37, 1), (38, 4), (42, 1), (43, 4), (47, 1), (48, 1), (49, 1)],
         6: [(1, 4), (6, 1), (7, 1)], 7: [(1, 4), (6, 2), (8, 4), (12, 4)]},
     1: {0: [(5, 3), (8, 1)], 1: [(1, 3), (4, 1), (8, 1), (9, 1), (10, 1), (13, 1), (18, 1), (21, 1), (25, 1), (27, 2)],
         2: [(1, 3), (4, 1), (5, 1), (6, 1), (7, 2), (9, 2), (17, 1), (28, 1), (33, 2)],
@@ -279,6 +294,24 @@ def longer_section(draw, message):
     return message[:at] + (length + len(more)).to_bytes(head, "big") + message[at + head:at + length] + more + message[at + length:]
 
 
+def spoil_data(draw, message):
+    """Some octets of a Section 7 of edition 2 set to what ends or lengthens sequences and runs, or some of its last ones
+    left out."""
+    found = [(at, length) for at, length, number in sections(message) if number == 7 and length > 6] if message[7:8] == b"\2" else []
+    if not found:
+        return flip(draw, message)
+    at, length = draw.choice(found)
+    if draw.random() < 0.3:
+        left = draw.randrange(5, length)
+        return message[:at] + left.to_bytes(4, "big") + message[at + 4:at + left] + message[at + length:]
+    octets = bytearray(message)
+    for _ in range(draw.choice((1, 1, 2, 5))):
+        first = at + draw.randrange(5, min(length, draw.choice((7, 20, length))))
+        last = min(first + draw.choice((1, 1, 2, 12, 40)), at + length)
+        octets[first:last] = bytes(draw.choice((0, 0, 1, 127, 128, 255, draw.randrange(256))) for _ in range(last - first))
+    return bytes(octets)
+
+
 def cut(draw, message):
     return message[:draw.randrange(len(message))]
 
@@ -305,7 +338,7 @@ def with_own_length(message):
 def damaged(draw, message):
     for _ in range(draw.choice((1, 1, 1, 2, 4))):
         if len(message) > 20:
-            message = draw.choice((change_number, change_number, change_number, flip, move_sections, longer_section, cut, lose, add))(draw, message)
+            message = draw.choice((change_number, change_number, change_number, flip, spoil_data, move_sections, longer_section, cut, lose, add))(draw, message)
     return with_own_length(message) if draw.random() < 0.7 else message
 
 
@@ -395,7 +428,10 @@ def wrong_words(draw):
                         ["demote", "params=absent", "surfaces=absent"], ["rescan", "x=1"], ["crop", "i0=1", "i1=0", "j0=0", "j1=0"],
                         ["crop", "i0=0", "i1=33554432", "j0=0", "j1=0"], ["list", "refused=copy"], ["keys", "refused=copy"],
                         ["split", "out=shelf/part", "kept=copy", "kept=pass"], ["repack", "to=0", "refused=copy", "refused=copy"],
-                        ["check", "refused=skip"], ["list", "kept=pass"], ["dump", "kept=copy"], ["filter", "refused=pass"]))
+                        ["check", "refused=skip"], ["list", "kept=pass"], ["dump", "kept=copy"], ["filter", "refused=pass"],
+                        ["repack", "to=42", "order=1"], ["check", "profile=stated"], ["check", "profile=open", "profile=open"],
+                        ["make", "seed=1", "ni=1", "nj=1", "to=42"], ["make", "seed=1", "ni=1", "nj=1", "to=0", "profile=open"])
+                       + ((["repack", "to=42"],) if not OPEN else ()))
 
 
 def policy_words(draw, name):
@@ -431,7 +467,8 @@ def plain_command_of(draw, has, pool):
     if name == "split":
         return ["split", draw.choice(("out=shelf/part",) * 9 + ("out=absent/part",))]
     if name == "repack":
-        return ["repack"] + draw.choice((["to=0"], ["to=2"], ["to=3", "order=1"], ["order=2", "to=3"]) + ((["to=least"],) if "least" in has else ()))
+        return ["repack"] + draw.choice((["to=0"], ["to=2"], ["to=3", "order=1"], ["order=2", "to=3"]) + ((["to=least"],) if "least" in has else ())
+                                        + ((["to=42"],) * 2 if OPEN and "coded" in has else ()))
     if name == "crop":
         i0, j0 = draw.choice((0, 0, 1)), draw.choice((0, 0, 2))
         return ["crop", f"i0={i0}", f"i1={i0 + draw.choice((0, 1, 9))}", f"j0={j0}", f"j1={j0 + draw.choice((0, 1, 9))}"]
@@ -456,7 +493,7 @@ def commands_of(program):
         for name, words in (("stats", ["stats"]), ("rescan", ["rescan"]), ("crop", ["crop", "i0=0", "i1=0", "j0=0", "j1=0"]),
                             ("decimals", ["dump", "decimals=2"]), ("migrate", ["migrate", f"params={top}/params/standard.csv"]), ("keys", ["keys"]),
                             ("least", ["repack", "to=least"]), ("policy", ["repack", "to=0", "refused=copy", "kept=copy"]),
-                            ("demote", ["demote", f"params={top}/params/standard.csv"])):
+                            ("demote", ["demote", f"params={top}/params/standard.csv"]), ("coded", ["repack", "to=42"] + OPEN)):
             if runner.run(words, b"").status == 0:
                 has.add(name)
         return has
@@ -517,17 +554,19 @@ def hold_note(words, plain, checked, accepted, written):
             hold(plain.note == wanted, "another note of Done", plain.note, wanted)
     elif plain.status == 1:
         usage = re.fullmatch(rb"usage word (\d+)\n", plain.note)
-        hold(usage and int(usage[1]) <= len(words) and plain.output == b"", "usage", plain.note)
+        hold(usage and int(usage[1]) <= len(given(words)) and plain.output == b"", "usage", plain.note)
     elif plain.status == 2:
         hold(plain.note == checked.note, "another refusal than that of check", plain.note, checked.note)
     elif plain.status == 3:
         kept = re.fullmatch(r"kept message (\d+) (.*)\n", plain.note.decode())
         hold(kept and 1 <= int(kept[1]) <= len(accepted), "kept a message that is not accepted", plain.note)
-        hold(any(re.fullmatch(cause, kept[2]) for cause in CAUSES.get(name, [])), "no such cause", plain.note)
+        packing = re.fullmatch(PACKING, kept[2]) if OPEN and name in READ_VALUES else None
+        known = any(re.fullmatch(cause, kept[2]) for cause in CAUSES.get(name, []))
+        hold(known or packing and int(packing[1]) not in READ_PACKINGS, "no such cause", plain.note)
         hold(("EditionOne" in kept[2]) <= (accepted[int(kept[1]) - 1][2] == 1), "EditionOne of edition 2", plain.note)
     else:
         absent = b"surfaces absent\n" if "surfaces=absent" in words else b"table absent\n" if "params=absent" in words else None
-        fault = plain.status == 7 and words == ["split", "out=absent/part"] and plain.note == b"shelf fault\n"
+        fault = plain.status == 7 and words[0] == "split" and "out=absent/part" in words and plain.note.endswith(b"shelf fault\n")
         hold(fault or (plain.status, plain.note, plain.output) == (4, absent, b""), "another status", plain.status, plain.note)
 
 
@@ -729,6 +768,24 @@ def listed(runner, data):
     return [dict(word.split("=", 1) for word in line.split()[1:]) for line in lines_of(runner.run(["list"], data).output)]
 
 
+def is_opaque(message):
+    """Whether a grid, product or packing of a message is not read: its keys, or its values, are then not those of chapter 6
+    of docs/PROFILE.md."""
+    own = [(number, message[at:at + length]) for at, length, number in sections(message)] if message[7] == 2 else []
+    return any(number == 3 and (octets[5] != 0 or octets[12:14] not in (b"\0\0", b"\0\1", b"\0\n", b"\0\x14", b"\0\x1e", b"\0\x28"))
+               or number == 4 and octets[7:9] not in (b"\0\0", b"\0\1", b"\0\x08", b"\0\x0b")
+               or number == 5 and int.from_bytes(octets[9:11], "big") not in READ_PACKINGS for number, octets in own)
+
+
+def hold_stated(data, checked, stated):
+    """What the stated profile accepts the open one does, and what it refuses for another reason than a template."""
+    lines = [line for line in lines_of(stated.output) if line.startswith("message ")]
+    hold(lines_of(checked.output)[:len(lines)] == lines, "profile=open accepts otherwise", stated.output[-200:])
+    if stated.status == 0 or stated.note.split()[5].decode() not in UNSTATED:
+        hold((checked.status, checked.output, checked.note) == (stated.status, stated.output, stated.note),
+             "profile=open answers otherwise", stated.note, checked.note)
+
+
 def conditions(words):
     return [word.split("=", 1) for word in words[1:]]
 
@@ -747,7 +804,7 @@ def fulfils(value, listed):
 def hold_picked(words, messages, output, written):
     """The fields with all these values are written, and a message whose fields all have them as it is."""
     asked = [(key.rstrip("!"), listed, key.endswith("!")) for key, listed in conditions(words)]
-    if any(KEYS[key][1] is None for key, _, _ in asked):
+    if any(KEYS[key][1] is None for key, _, _ in asked) or any(map(is_opaque, messages)):
         return
     matches = [[all(fulfils(key_value(message, starts, key), listed) != negated for key, listed, negated in asked)
                 for starts in in_force(message)] for message in messages]
@@ -792,17 +849,18 @@ def hold_written(runner, words, data, plain, accepted, parts):
         hold(len(parts) == sum(one[3] for one in accepted[:count]) == len(written), "split wrote other files")
         if all(one[3] == 1 for one in accepted[:count]):
             hold(output == source, "the parts are not the messages")
-        hold(columns(runner, output) == columns(runner, source), "split changed a value")
+        hold(any(map(is_opaque, messages)) or columns(runner, output) == columns(runner, source), "split changed a value")
     if name == "filter":
         hold_picked(words, messages, output, written)
         hold(runner.run(words, output).output == output, "filter of its output is another")
     if name == "set":
         hold(len(output) == len(source), "set changed a length")
         wanted = b"".join(with_keys(words, one) for one in messages)
-        hold(output == wanted or any(KEYS[key][1] is None for key, _ in conditions(words)), "set wrote other octets", words)
+        elsewhere = any(KEYS[key][1] is None for key, _ in conditions(words)) or any(map(is_opaque, messages))
+        hold(output == wanted or elsewhere, "set wrote other octets", words)
         hold(runner.run(words, output).output == output, "set of its output is another")
     if words[1:] == ["to=least"]:
-        hold(plain.status != 3 or b"EditionOne" in plain.note, "to=least kept a message", plain.note)
+        hold(plain.status != 3 or plain.note.split()[3] in (b"EditionOne", b"Packing"), "to=least kept a message", plain.note)
         hold(all(new[1] <= old[1] for new, old in zip(written, accepted)), "to=least made a message longer")
     if name == "repack":
         hold(columns(runner, output) == columns(runner, source), "repack changed a value", words)
@@ -859,6 +917,8 @@ def try_case(runner, draw, words, data, way):
     checked = runner.run(["check"], data)
     accepted = hold_check(data, checked)
     hold_bounds(["check"], data, checked, 0)
+    if OPEN:
+        hold_stated(data, checked, runner.run(["check"], data, stated=True))
     fields = listed(runner, data)
     hold(len(fields) == sum(one[3] for one in accepted), "list prints other fields")
     points = max((int(field["points"]) for field in fields), default=0)
@@ -890,7 +950,7 @@ def try_case(runner, draw, words, data, way):
         hold((front.status, output, front_parts) == (0, plain.output, parts), "not the output of the messages before", words, front.status, front.note)
     if plain.status in (0, 2, 3) and name in COPIES + ("make",) and points <= MOST_POINTS:
         hold_written(runner, words, data, plain, accepted, parts)
-    if words[:1] == ["keys"]:
+    if words[:1] == ["keys"] and plain.status != 1:
         hold_keys(plain, fields, runner, data, accepted)
     if words[:1] == ["stats"]:
         hold_stats(plain, runner.run(["dump"], data))
@@ -912,7 +972,7 @@ WAYS = ("file", "pieces", "pieces", "leaves", "full", "closed", "directory", "cl
 
 
 def case_of(seed, number, pool, has):
-    draw = random.Random(f"{seed} {number}")
+    draw = random.Random(f"{seed} {number}{' open' * bool(OPEN)}")
     return draw, command_of(draw, has, pool), stream_of(draw, pool), draw.choice(WAYS)
 
 
@@ -948,6 +1008,7 @@ def smaller(runner, seed, words, data, way, wrong):
 def work(arguments):
     """The cases of one process: every jobs-th one, until its part of the runs is made."""
     program, pool, has, options, first = arguments
+    OPEN[:] = ["profile=open"] * (options["profile"] == "open")
     runner, counts, number = Runner(program), collections.Counter(), first
     most, stopped = options["runs"] // options["jobs"], []
     for name in signal.SIGINT, signal.SIGTERM:
@@ -979,9 +1040,18 @@ def report(runner, options, number, words, data, way, wrong):
     print(f"case {number} ({way}): {' '.join(words)} < {name} ({len(data)} octets): {wrong}", flush=True)
 
 
+def coded_of(runner, pool):
+    """Those of some messages that are read, in CCSDS packing: in blocks of 32, and in the fewest octets."""
+    for message in pool:
+        for target in ("to=42", "to=least"):
+            packed = runner.run(["repack", target, "profile=open"], message, stated=True)
+            if packed.status == 0 and any(number == 5 and packed.output[at + 9:at + 11] == b"\0\x2a" for at, _, number in sections(packed.output)):
+                yield packed.output
+
+
 def pool_of(program, files):
-    """Messages to begin with: small ones of the files, the worked ones, and some that are made; of those that are
-    refused one for each reason."""
+    """Messages to begin with: small ones of the files, the worked ones, and some that are made, and these in CCSDS packing;
+    of those that are refused one for each reason."""
     pool = worked_messages()
     for path in files:
         with open(path, "rb") as file:
@@ -993,6 +1063,7 @@ def pool_of(program, files):
         for ni, nj in ((1, 1), (7, 3), (40, 30)):
             for target in TARGETS:
                 pool.append(runner.run(["make", "seed=5", f"ni={ni}", f"nj={nj}", *target], b"").output)
+        pool += list(dict.fromkeys(coded_of(runner, [one for one in pool if len(one) <= 20_000])))
         noted = [runner.run(["check"], one).note.split()[5:6] for one in pool]
     finally:
         runner.close()
@@ -1000,12 +1071,13 @@ def pool_of(program, files):
 
 
 def main():
-    options = {"runs": "10000", "seed": "1", "jobs": "1", "case": None, "keep": "hostile-findings"}
+    options = {"profile": "stated", "runs": "10000", "seed": "1", "jobs": "1", "case": None, "keep": "hostile-findings"}
     words = [word for word in sys.argv[1:] if word.split("=", 1)[0] in options and "=" in word]
     options.update(word.split("=", 1) for word in words)
     paths = [word for word in sys.argv[1:] if word not in words]
-    if len(paths) < 2:
+    if len(paths) < 2 or options["profile"] not in ("stated", "open"):
         sys.exit(__doc__)
+    OPEN[:] = ["profile=open"] * (options["profile"] == "open")
     options["runs"], options["jobs"] = int(options["runs"]), int(options["jobs"])
     program = os.path.abspath(paths[0])
     pool, has = pool_of(program, paths[1:]), commands_of(program)
@@ -1020,7 +1092,7 @@ def main():
             results = processes.map(work, given, chunksize=1)
     counts = sum(results, collections.Counter())
     print(f"{counts['runs']} runs, {counts['cases']} cases over {len(pool)} messages, {counts['findings']} findings, "
-          f"{time.monotonic() - begun:.0f} seconds; seed {options['seed']}; commands {' '.join(sorted(has - {'words'}))}")
+          f"{time.monotonic() - begun:.0f} seconds; profile {options['profile']}, seed {options['seed']}; commands {' '.join(sorted(has - {'words'}))}")
     told = sorted((what, count) for what, count in counts.items() if what not in ("runs", "cases", "findings"))
     print("plain runs: " + ", ".join(f"{what} {count}" for what, count in told))
     sys.exit(counts["findings"] > 0)

@@ -13,7 +13,7 @@ samples and in FILE.. come behind them, by default the files of Debian's python-
 - `set` of a parameter number has to give what `grib_set` gives, and set back the message again;
 - `split`, joined, has to be what this script cuts, and what `grib_copy` writes;
 - if a packing is opaque, what reads values has to say so and write nothing, and with `kept=copy` the message; if not,
-  `dump` has to print the values that ecCodes reads, and repacked and back they have to stay.
+  `dump` has to print the values that ecCodes reads, and repacked, to CCSDS packing (5.42) too, they have to stay.
 
 All of them in one file are then repacked in one run with `kept=copy`. At last 2,000 of them are damaged, an octet or a
 few each: what is accepted without `profile=open` has to give the same lines with it. Prints how many runs there were, what ecCodes could not
@@ -39,6 +39,7 @@ PACKINGS = ["grid_simple", "grid_complex", "grid_jpeg", "grid_png", "grid_ccsds"
             "grid_simple_log_preprocessing", "grid_second_order"]
 SPECTRAL = ["spectral_simple", "spectral_complex", "spectral_ieee"]
 STATED_GRIDS, STATED_PRODUCTS, STATED_PACKINGS = (0, 1, 10, 20, 30, 40), (0, 1, 8, 11), (0, 2, 3)
+READ_PACKINGS = (*STATED_PACKINGS, 42)  # those whose values are read with `profile=open`
 # Templates that begin as 4.0 does, with how many octets later its octets 12 to 34 stand.
 SHIFT = {**dict.fromkeys([*range(16), 51, 60, 61, 91], 0), **dict.fromkeys(range(40, 44), 2)}
 INSTANT = ("process", "generator", "timeUnit", "forecastTime", "surface1", "surface1Scale", "surface1Value", "surface2",
@@ -189,7 +190,7 @@ def places(sections):
         begin = INTERVAL[product]
         for key, (start, end) in (END | (RANGE if sections[4][begin + RANGES - 1] else {})).items():
             own[key] = (4, begin + start, begin + end, "")
-    if packing not in STATED_PACKINGS:
+    if packing not in READ_PACKINGS:
         del own["bits"]
     return own
 
@@ -347,7 +348,7 @@ def compare_set(name, octets, own):
 
 def compare_values(name, octets, own):
     """What reads values."""
-    opaque = [(n, templates(sections)[2]) for n, sections in enumerate(own, 1) if templates(sections)[2] not in STATED_PACKINGS]
+    opaque = [(n, templates(sections)[2]) for n, sections in enumerate(own, 1) if templates(sections)[2] not in READ_PACKINGS]
     if not opaque:
         compare_dumped(name, octets)
         return
@@ -377,7 +378,7 @@ def compare_dumped(name, octets):
         scaled = [round((value * 10.0**decimal - reference) / 2.0**binary) if point is not None else None for value, point in zip(values, points)]
         counts["fields with values as ecCodes reads them"] += 1
         hold(len(values) == len(points) and scaled == points, name, "dump differs from ecCodes")
-    for target in (["to=0"], ["to=3", "order=2"], ["to=least"]):
+    for target in (["to=0"], ["to=3", "order=2"], ["to=42"], ["to=least"]):
         status, packed, note = opened(["repack", *target], octets)
         if status == 3 and "Packing" not in note:
             counts["misfits of repack"] += 1

@@ -191,7 +191,7 @@ def check_keys(page, profile):
 def check_names(page, profile):
     """The reasons, causes and losses of PROFILE stand in GUIDE and in the man page."""
     names = re.findall(r"^\| \d+ \| (\w+) \|", re.search(r"^### The reasons\n(.*?)^###", profile, re.M | re.S).group(1), re.M)
-    hold(len(names) == 37, f"{len(names)} reasons")
+    hold(len(names) == 38, f"{len(names)} reasons")
     for losses in re.findall(r"^\| loss \| if \|\n\|.*\n((?:\|.*\n)+)", profile, re.M):
         names += [name for line in losses.splitlines() for name in re.findall(r"(\w+)(?:\(\w+\))?(?:, |$)", line.split("|")[1].strip())]
     causes = re.search(r"^\| cause of Kept \|.*\n\|.*\n((?:\|.*\n)+)", profile, re.M).group(1)
@@ -229,6 +229,9 @@ def main():
             shown = plain(section(page, "COMMANDS") + section(page, "GOING ON AFTER REFUSALS") + section(page, "ANY GRID, PRODUCT AND PACKING"))
             hold(all(name in shown for name in names), f"names of {command} in the page")
 
+    hold(has_reading(program, "repack", "to=42", "profile=open"), "not in the program: repack to=42 profile=open")
+    hold(not has_reading(program, "repack", "to=42"), "read by the program: repack to=42 alone")
+    hold(set(completed("grib repack to=")) == {"0", "2", "3", "42", "least"}, "targets of repack in the completion")
     for command, word in [*NOT_PAST.items(), *NOT_PROFILE.items()]:
         hold(not has_reading(program, command, *WORDS[command], word), f"read by the program: {command} {word}")
 
