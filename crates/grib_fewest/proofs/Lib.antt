@@ -1,0 +1,5 @@
+pub mod Sizes
+pub mod Below
+pub mod Items
+pub mod Left
+pub mod Steps
