@@ -1,6 +1,9 @@
 -- Section 1, the product definition section (WMO-No. 306, Volume I.2, FM 92 GRIB edition 1): its numbers by
 -- their names.
-use Rattle.std.specs.Prelude.{ℕ, List}
+use Rattle.std.specs.Prelude.{ℕ, Bool, true, false, Option, List, [], ◌∷◌, codes, ℤ, pos}
+use Rattle.std.specs.List.{find}
+use Rattle.std.specs.Str.{bytes_eq}
+use Rattle.grib_bits.specs.Bits.{bits_of, signed}
 use Rattle.grib_bits.specs.Octets.{octets}
 use Rattle.grib1_sections.specs.Acceptance.{identification}
 use Rattle.grib1_sections.specs.declared.key.Key1.{Key1}
@@ -45,3 +48,48 @@ key_in s1 key = let place = place_of key in octets s1 place.first place.last
 -- the number of a message
 abbrev pub key1_of : List ℕ → Key1 → ℕ
 key1_of message key = key_in (identification message) key
+
+-- the same as it is printed: the decimal scale factor alone has a sign
+abbrev pub number1_of : List ℕ → Key1 → ℤ
+number1_of message DecimalScale = signed (bits_of 16 (key1_of message DecimalScale))
+number1_of message key = pos (key1_of message key)
+
+-- the names, as they are printed and as a command line has them
+abbrev pub name1_of : Key1 → List ℕ
+name1_of Version = codes "Version"
+name1_of Centre = codes "Centre"
+name1_of Process = codes "Process"
+name1_of GridNumber = codes "GridNumber"
+name1_of Flags = codes "Flags"
+name1_of Parameter = codes "Parameter"
+name1_of LevelType = codes "LevelType"
+name1_of Level = codes "Level"
+name1_of YearOfCentury = codes "YearOfCentury"
+name1_of Month = codes "Month"
+name1_of Day = codes "Day"
+name1_of Hour = codes "Hour"
+name1_of Minute = codes "Minute"
+name1_of TimeUnit = codes "Unit"
+name1_of P1 = codes "P1"
+name1_of P2 = codes "P2"
+name1_of TimeRange = codes "TimeRange"
+name1_of AverageCount = codes "AverageCount"
+name1_of AverageMissing = codes "AverageMissing"
+name1_of Century = codes "Century"
+name1_of SubCentre = codes "SubCentre"
+name1_of DecimalScale = codes "DecimalScale"
+
+-- all numbers, in the order of their octets
+abbrev pub keys1 : List Key1
+keys1 = Version ∷ Centre ∷ Process ∷ GridNumber ∷ Flags ∷ Parameter ∷ LevelType ∷ Level ∷ YearOfCentury ∷ Month ∷ Day ∷ Hour ∷ Minute ∷ TimeUnit ∷ P1 ∷ P2 ∷ TimeRange ∷ AverageCount ∷ AverageMissing ∷ Century ∷ SubCentre ∷ DecimalScale ∷ []
+
+-- the number of this name, if there is one
+abbrev pub key1_named : List ℕ → Option Key1
+key1_named name = find (λ key. bytes_eq (name1_of key) name) keys1
+
+-- whether a message may get another number there: not where others are read by it, the flags and the decimal scale
+-- factor
+abbrev pub can_set1 : Key1 → Bool
+can_set1 Flags = false
+can_set1 DecimalScale = false
+can_set1 key = true

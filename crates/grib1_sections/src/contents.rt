@@ -6,7 +6,7 @@ ghost use Rattle.grib1_sections.specs.Grid.{grid_type, row_list};
 ghost use Rattle.grib1_sections.specs.Data.{bit_width};
 ghost use Rattle.grib1_sections.specs.Coordinates.{coordinate_list};
 ghost use Rattle.grib1_sections.specs.Column.{column1_of};
-ghost use Rattle.grib1_sections.specs.Keys.{key1_of};
+ghost use Rattle.grib1_sections.specs.Keys.{key1_of, number1_of};
 ghost use Rattle.grib1_sections.specs.Message.{SectionsPass, section_of};
 
 use crate::column::read_column;
@@ -14,7 +14,7 @@ use crate::key::{Key1, number_of};
 use crate::lists::{read_coordinates, read_rows};
 use crate::message::Message1;
 use grib_base::MOST_POINTS;
-use grib_bits::u8_at;
+use grib_bits::{signed_of, u8_at};
 use grib_packing::Column;
 use std::alloc::{AllocError, Global};
 
@@ -45,6 +45,17 @@ impl<'a> Message1<'a> {
         ensures small { result < 2 ^ 16 }
     {
         number_of(present_section(self, 1), key)
+    }
+
+    /// The number of the key as it is printed, with its sign.
+    pub fn number1(&self, key: Key1) -> i64
+        ensures { result ≡ number1_of self.now key }
+    {
+        let number = self.key1(key);
+        match key {
+            Key1::DecimalScale => signed_of(number, 16),
+            _ => number as i64,
+        }
     }
 
     /// The type of the grid (code table 6): octet 6 of Section 2.

@@ -1,10 +1,11 @@
 //! The numbers of Section 1 by their names.
 
-ghost use Rattle.std.specs.Prelude.{◌≡◌, ◌+◌, ◌≤◌, ◌<◌, ◌^◌, length};
+ghost use Rattle.std.specs.Prelude.{◌≡◌, ◌+◌, ◌≤◌, ◌<◌, ◌^◌, length, Some};
 ghost use Rattle.grib1_sections.specs.Keys as keys;
-ghost use Rattle.grib1_sections.specs.Keys.{key_in};
+ghost use Rattle.grib1_sections.specs.Keys.{key_in, name1_of, keys1, key1_named, can_set1};
 
 use grib_bits::uint_at;
+use std::fmt;
 
 /// A number of Section 1, the product definition section (WMO-No. 306, Volume I.2, FM 92 GRIB edition 1).
 #[derive(Clone, Copy, Debug, PartialEq, Eq)]
@@ -53,6 +54,94 @@ pub enum Key1 {
     SubCentre,
     /// The decimal scale factor D, sign and magnitude: octets 27 and 28.
     DecimalScale,
+}
+
+/// All numbers of Section 1, in the order of their octets.
+const KEYS: [Key1; 22] = [
+    Key1::Version,
+    Key1::Centre,
+    Key1::Process,
+    Key1::GridNumber,
+    Key1::Flags,
+    Key1::Parameter,
+    Key1::LevelType,
+    Key1::Level,
+    Key1::YearOfCentury,
+    Key1::Month,
+    Key1::Day,
+    Key1::Hour,
+    Key1::Minute,
+    Key1::Unit,
+    Key1::P1,
+    Key1::P2,
+    Key1::TimeRange,
+    Key1::AverageCount,
+    Key1::AverageMissing,
+    Key1::Century,
+    Key1::SubCentre,
+    Key1::DecimalScale,
+];
+
+impl Key1 {
+    /// The key of this name, `None` where no key has it. Small and capital letters differ.
+    pub fn of(name: &str) -> Option<Key1>
+        ensures { result ≡ key1_named name.now }
+    {
+        KEYS.iter().copied().find(|key| key.name() == name)
+    }
+
+    /// All keys, in the order of their octets.
+    pub fn all() -> &'static [Key1]
+        ensures { result.now ≡ keys1 }
+    {
+        &KEYS
+    }
+
+    /// Whether a message may get another number at the key. It may not where others are read by the number: the
+    /// flags and the decimal scale factor.
+    pub fn can_set(&self) -> bool
+        ensures { result ≡ can_set1 self.now }
+    {
+        !matches!(self, Key1::Flags | Key1::DecimalScale)
+    }
+
+    /// The name of the key, as a command line has it and as it is printed.
+    pub fn name(&self) -> &'static str
+        ensures { result.now ≡ name1_of self.now }
+    {
+        match self {
+            Key1::Version => "Version",
+            Key1::Centre => "Centre",
+            Key1::Process => "Process",
+            Key1::GridNumber => "GridNumber",
+            Key1::Flags => "Flags",
+            Key1::Parameter => "Parameter",
+            Key1::LevelType => "LevelType",
+            Key1::Level => "Level",
+            Key1::YearOfCentury => "YearOfCentury",
+            Key1::Month => "Month",
+            Key1::Day => "Day",
+            Key1::Hour => "Hour",
+            Key1::Minute => "Minute",
+            Key1::Unit => "Unit",
+            Key1::P1 => "P1",
+            Key1::P2 => "P2",
+            Key1::TimeRange => "TimeRange",
+            Key1::AverageCount => "AverageCount",
+            Key1::AverageMissing => "AverageMissing",
+            Key1::Century => "Century",
+            Key1::SubCentre => "SubCentre",
+            Key1::DecimalScale => "DecimalScale",
+        }
+    }
+}
+
+impl fmt::Display for Key1 {
+    ghost output = { λ key. Some (name1_of key) };
+
+    fn fmt<W: fmt::Write>(&self, f: &mut fmt::Formatter<W>) -> fmt::Result {
+        f.write_str(self.name())
+    }
 }
 
 /// The octets of Section 1 at which a number stands.

@@ -5,4 +5,3 @@ pub mod Lines1
 pub mod Stats
 pub mod Values
 pub mod KeyLines
-pub mod Names1

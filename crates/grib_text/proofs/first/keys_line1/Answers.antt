@@ -1,6 +1,6 @@
 use Rattle.std.proofs.Common.{◌≡◌, ℕ, List, [], ◌∷◌, ◌++◌, codes, ap, ◌∙◌, append_assoc}
 use Rattle.std.specs.Fmt.{decimal}
-use Rattle.grib_text.specs.Names1.{keys1}
+use Rattle.grib1_sections.specs.Keys.{keys1}
 use Rattle.grib_text.specs.KeyLines.{numbers_text}
 use Rattle.grib_text.proofs.first.keys_line1.Goals as goal
 
