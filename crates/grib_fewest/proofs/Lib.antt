@@ -1,5 +1,7 @@
 pub mod Sizes
 pub mod Below
 pub mod Items
+pub mod At
 pub mod Left
 pub mod Steps
+pub mod ReadBack

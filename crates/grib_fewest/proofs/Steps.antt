@@ -26,6 +26,7 @@ use Rattle.grib_fewest.specs.Lists.{Cover, AreInSegments, Tells, told_by, list_b
 use Rattle.grib_fewest.proofs.Sizes.{head_size}
 use Rattle.grib_fewest.proofs.Below.{IsBelow, below_zeros}
 use Rattle.grib_fewest.proofs.Items.{IsBlock, covers_one, covers_some, entries-reference, length-entries, run_zeros, blocks_below, same_reference, told_behind, run_is_zero, chosen-fewest, five_bits}
+use Rattle.grib_fewest.proofs.At.{At, long, reference_at}
 use Rattle.grib_fewest.proofs.Left.{zeros_at, room_at, room_is, ends_at, zeros_few, zeros_many, left, left-none, left-run, left-block, left-inside}
 
 -- ---- the numbers of runs
@@ -64,33 +65,6 @@ eight_codes c fits = elim fits.block [
 
 -- ---- one item
 
--- an item that begins with a block, by what it tells and what is told behind it
-pub record At (c : Coding) (numbers : List ℕ) (q : ℕ) (reference : Option ℕ) (item : Item) (rest : List Told) : Type 0 where
-  pub fits : Fits c
-  pub within : q < block_count c (length numbers)
-  pub is : IsItem c (skip_of reference) item
-  pub room : covered c (q % c.interval) item ≤ run_room c (q % c.interval)
-  pub told : take (length numbers - q * c.block) (entries_with c (q % c.interval) reference item ++ rest)
-      ≡ drop (q * c.block) (told_after c 0 0 numbers)
-
-long : (c : Coding) (numbers : List ℕ) (q : ℕ) (reference : Option ℕ) (item : Item) (rest : List Told) → At c numbers q reference item rest
-    → length (entries_with c (q % c.interval) reference item) ≡ c.block * covered c (q % c.interval) item
-long c numbers q reference item rest at =
-    let B = fits_block c at.fits in
-    length-entries c (q % c.interval) reference item B.0 B.2
-    (covers_some c (q % c.interval) item (mod_below q c.interval at.fits.some_blocks)) at.is
-
-reference_at : (c : Coding) (numbers : List ℕ) (q : ℕ) (reference : Option ℕ) (item : Item) (rest : List Told) → At c numbers q reference item rest
-    → reference ≡ reference_of (block_at c numbers q)
-reference_at c numbers q reference item rest at =
-    let place = q % c.interval in
-    let entries = entries_with c place reference item in
-    let B = fits_block c at.fits in
-    let some : 1 ≤ covered c place item = covers_some c place item (mod_below q c.interval at.fits.some_blocks) in
-    let least : c.block * 1 ≤ c.block * covered c place item = mul-le-mul_left c.block some in
-    sym (same_reference c numbers q entries rest B.0 at.within (omega (arith, long c numbers q reference item rest at, least, B.0)) at.told
-    ∙ entries-reference c place reference item)
-
 -- the blocks of a run are zero blocks
 zeros : (c : Coding) (numbers : List ℕ) (q number : ℕ) (reference : Option ℕ) (rest : List Told) → At c numbers q reference (Run number) rest
     → (i : ℕ) → i < covered c (q % c.interval) (Run number) → is_zero (block_at c numbers (q + i)) ≡ true
@@ -106,9 +80,10 @@ zeros c numbers q number reference rest at i less =
     (subst (λ (k : ℕ). All (λ e. code_of e ≡ 0) (take k told)) (long c numbers q reference (Run number) rest at) all)
 
 step_run : (c : Coding) (numbers : List ℕ) (q number : ℕ) (reference : Option ℕ) (rest : List Told) → At c numbers q reference (Run number) rest
+    → covered c (q % c.interval) (Run number) ≤ run_room c (q % c.interval)
     → left c numbers q
     ≤ length (coded_bits c (coded_of reference (Run number))) + left c numbers (q + covered c (q % c.interval) (Run number))
-step_run c numbers q number reference rest at =
+step_run c numbers q number reference rest at in_room =
     let place = q % c.interval in
     let n = covered c place (Run number) in
     let z = zeros_at c numbers q in
@@ -121,7 +96,7 @@ step_run c numbers q number reference rest at =
     let head = ap (head_size c) (reference_at c numbers q reference (Run number) rest at) in
     elim (cases_lt (q + n) count) [
       | inr past ↦
-          let many : count - q ≤ z = zeros_many c numbers q (count - q) (omega (arith, at.room, room, past)) (omega (arith, at.within))
+          let many : count - q ≤ z = zeros_many c numbers q (count - q) (omega (arith, in_room, room, past)) (omega (arith, at.within))
           (λ i less. all i (omega (arith, less, past))) in
           let last : q + z ≡ count = omega (arith, many, few.1, at.within) in
           let yes' : (z == count - q) ≡ true = eq-eqb z (count - q) (omega (arith, last)) in
@@ -137,7 +112,7 @@ step_run c numbers q number reference rest at =
             head,
           )
       | inl inside ↦
-          let many : n ≤ z = zeros_many c numbers q n (omega (arith, at.room, room)) (omega (arith, inside)) all in
+          let many : n ≤ z = zeros_many c numbers q n (omega (arith, in_room, room)) (omega (arith, inside)) all in
           let ends = ends_at c numbers q z in
           let run = left-run c numbers q z at.within refl (omega (arith, many, some)) in
           elim (cases_lt n z) [
@@ -169,7 +144,7 @@ step_run c numbers q number reference rest at =
           ]
     ]
 
-step_block : (c : Coding) (numbers : List ℕ) (q : ℕ) (reference : Option ℕ) (item : Item) (rest : List Told) → At c numbers q reference item rest
+pub step_block : (c : Coding) (numbers : List ℕ) (q : ℕ) (reference : Option ℕ) (item : Item) (rest : List Told) → At c numbers q reference item rest
     → IsBlock item → left c numbers q ≤ length (coded_bits c (coded_of reference item)) + left c numbers (q + 1)
 step_block c numbers q reference item rest at is_block =
     let place = q % c.interval in
@@ -217,11 +192,12 @@ step_block c numbers q reference item rest at is_block =
     ]
 
 step : (c : Coding) (numbers : List ℕ) (q : ℕ) (reference : Option ℕ) (item : Item) (rest : List Told) → At c numbers q reference item rest
+    → covered c (q % c.interval) item ≤ run_room c (q % c.interval)
     → left c numbers q ≤ length (coded_bits c (coded_of reference item)) + left c numbers (q + covered c (q % c.interval) item)
-step c numbers q reference (Run number) rest at = step_run c numbers q number reference rest at
-step c numbers q reference (Second pairs) rest at = step_block c numbers q reference (Second pairs) rest at tt
-step c numbers q reference (Split k high low) rest at = step_block c numbers q reference (Split k high low) rest at tt
-step c numbers q reference (Plain codes) rest at = step_block c numbers q reference (Plain codes) rest at tt
+step c numbers q reference (Run number) rest at in_room = step_run c numbers q number reference rest at in_room
+step c numbers q reference (Second pairs) rest at in_room = step_block c numbers q reference (Second pairs) rest at tt
+step c numbers q reference (Split k high low) rest at in_room = step_block c numbers q reference (Split k high low) rest at tt
+step c numbers q reference (Plain codes) rest at in_room = step_block c numbers q reference (Plain codes) rest at tt
 
 -- ---- all items
 
@@ -234,12 +210,12 @@ from_on c numbers q (coded ∷ items) fits cover segments told =
     let next = block_after c q coded in
     let rest = told_by c next items in
     let at : At c numbers q coded.reference coded.item rest =
-    record { fits = fits; within = cover.0; is = cover.1; room = segments.0; told = told } in
+    record { fits = fits; within = cover.0; is = cover.1; told = told } in
     let behind = told_behind c numbers q (covered c place coded.item) (entries_with c place coded.reference coded.item) rest
     (long c numbers q coded.reference coded.item rest at) told in
     omega (
       arith,
-      step c numbers q coded.reference coded.item rest at,
+      step c numbers q coded.reference coded.item rest at segments.0,
       from_on c numbers next items fits cover.2 segments.1 behind,
       length-append (coded_bits c coded) (list_bits c items),
     )

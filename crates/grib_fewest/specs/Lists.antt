@@ -1,12 +1,12 @@
 -- The lists of items that numbers can be coded by (CCSDS 121.0-B, which leaves the choice among them to the coder; WMO-No.
 -- 306, Volume I.2, FM 92 GRIB edition 2, data template 7.42).
-use Rattle.std.specs.Prelude.{◌≡◌, ℕ, ◌+◌, ◌%◌, ◌≤◌, ◌<◌, Bool, List, [], ◌∷◌, ◌++◌, length, take}
+use Rattle.std.specs.Prelude.{◌≡◌, ℕ, ◌+◌, ◌%◌, ◌≤◌, ◌<◌, Bool, false, List, [], ◌∷◌, ◌++◌, length, take}
 use Rattle.std.specs.List.{flat_map}
 use Rattle.grib_coding.specs.declared.coding.Coding.{Coding}
 use Rattle.grib_coding.specs.Coding.{block_count}
 use Rattle.grib_coding.specs.Items.{IsItem, covered}
 use Rattle.grib_coding.specs.Numbers.{Told, told_after}
-use Rattle.grib_coding.specs.Reading.{Coded, entries_of}
+use Rattle.grib_coding.specs.Reading.{Coded, entries_of, is_too_long}
 use Rattle.grib_choice.specs.Runs.{run_room}
 use Rattle.grib_block_writing.specs.Written.{coded_bits, skip_of}
 
@@ -37,6 +37,21 @@ AreInSegments c block [] = Unit {0}
 AreInSegments c block (coded ∷ items) =
     (covered c (block % c.interval) coded.item ≤ run_room c (block % c.interval)) × AreInSegments c (block_after c block coded) items
 
+-- What is asked of items that are read, beside what they tell: no run goes past its interval, and no sequence of a second
+-- extension is over 90.
+abbrev pub AreReadable : Coding → ℕ → List Coded → Type 0
+AreReadable c block [] = Unit {0}
+AreReadable c block (coded ∷ items) =
+    (block % c.interval + covered c (block % c.interval) coded.item ≤ c.interval) × (is_too_long coded.item ≡ false)
+    × AreReadable c (block_after c block coded) items
+
 -- the bits of a list of items
 abbrev pub list_bits : Coding → List Coded → List Bool
 list_bits c items = flat_map (coded_bits c) items
+
+-- Bits begin with those of this list of items, which tells these numbers and is read.
+pub record BeginWith (c : Coding) (numbers : List ℕ) (bits : List Bool) (items : List Coded) : Type 0 where
+  pub tells : Tells c numbers items
+  pub readable : AreReadable c 0 items
+  pub rest : List Bool
+  pub stand : bits ≡ list_bits c items ++ rest
