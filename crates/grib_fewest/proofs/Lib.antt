@@ -5,3 +5,4 @@ pub mod At
 pub mod Left
 pub mod Steps
 pub mod ReadBack
+pub mod Found
