@@ -6,3 +6,4 @@ pub mod Left
 pub mod Steps
 pub mod ReadBack
 pub mod Found
+pub mod Parsed

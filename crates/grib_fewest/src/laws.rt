@@ -5,7 +5,7 @@ ghost use Rattle.grib_coding.specs.declared.coding.Coding.{Coding};
 ghost use Rattle.grib_coding.specs.Coding.{Fits, is_padded, greatest};
 ghost use Rattle.grib_coding.specs.Reading.{Coded, decoded, read_as};
 ghost use Rattle.grib_block_writing.specs.Written.{written};
-ghost use Rattle.grib_fewest.specs.Lists.{Tells, AreReadable, AreInSegments, list_bits};
+ghost use Rattle.grib_fewest.specs.Lists.{Tells, AreReadable, AreInSegments, BeginWith, list_bits};
 
 /// No list of items that tells the same numbers, and in which no run goes past its segment, has fewer bits than what is
 /// written of them.
@@ -19,4 +19,10 @@ pub fn such_a_list_is_read()
     ensures { (c : Coding) (numbers : List ℕ) (items : List Coded) (rest : List Bool) → Fits c → is_padded c ≡ false
         → All (λ number. number ≤ greatest c) numbers → Tells c numbers items → AreReadable c 0 items
         → decoded c (length numbers) (list_bits c items ++ rest) ≡ read_as c numbers }
+{}
+
+/// What is read as numbers begins with such a list.
+pub fn what_is_read_is_such_a_list()
+    ensures { (c : Coding) (numbers : List ℕ) (bits : List Bool) → Fits c → is_padded c ≡ false
+        → decoded c (length numbers) bits ≡ read_as c numbers → (items : List Coded) × BeginWith c numbers bits items }
 {}
