@@ -1,11 +1,11 @@
 -- Codes that are nowhere more than others, and the sums over them.
-use Rattle.std.proofs.Common.{lit<, inl, inr, ◌≡◌, ℕ, zero, suc, ◌+◌, ◌-◌, ◌*◌, ◌/◌, ◌%◌, ◌^◌, ◌<◌, ◌≤◌, Bool, true, false, List, [], ◌∷◌, ◌++◌, map, take, drop, replicate, length, Option, Some, None, sum, refl, sym, ap, ap₂, ◌∙◌, arith}
+use Rattle.std.proofs.Common.{◌≡◌, ℕ, zero, suc, ◌+◌, ◌*◌, ◌/◌, ◌^◌, ◌<◌, ◌≤◌, List, [], ◌∷◌, ◌++◌, take, drop, replicate, length, sum, refl, ap, ◌∙◌, arith}
 use Rattle.std.specs.List.{All}
 use Rattle.std.proofs.Math.Nat.{mul-le-mul, div-mul-le_self}
 use Rattle.std.proofs.lemmas.Nat.{le-div, pow_pos, div-mul-add}
 use Rattle.std.proofs.lemmas.List.Elements.{All-nil, All-cons, All-head, All-tail}
 use Rattle.std.proofs.lemmas.List.Sums.{sum_by-cons}
-use Rattle.grib_coding.specs.Items.{Pair, next_pair, pair_of, pair_number, codes_of_pairs, joined}
+use Rattle.grib_coding.specs.Items.{next_pair, pair_of, pair_number, codes_of_pairs, joined}
 use Rattle.grib_coding.specs.Numbers.{Told, Reference, Code}
 use Rattle.grib_choice.specs.Choices.{high_sum, pair_sum}
 use Rattle.grib_block_writing.specs.Blocks.{code_of, codes_of, reference_of}

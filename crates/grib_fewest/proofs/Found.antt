@@ -1,14 +1,14 @@
 -- What is found at the front of bits are the bits of it.
-use Rattle.std.proofs.Common.{lit<, inl, inr, ◌⊎◌, ◌≡◌, ℕ, zero, suc, ◌+◌, ◌-◌, ◌*◌, ◌/◌, ◌^◌, ◌<◌, ◌≤◌, Bool, true, false, cond, nat_le, ◌==◌, List, [], ◌∷◌, ◌++◌, take, drop, length, Option, Some, None, refl, sym, ap, ap₂, ◌∙◌, subst, arith, append_assoc, take-append-drop, length-take}
+use Rattle.std.proofs.Common.{inl, inr, ◌⊎◌, ◌≡◌, ℕ, zero, suc, ◌+◌, ◌-◌, ◌/◌, ◌^◌, ◌<◌, ◌≤◌, Bool, true, false, cond, nat_le, ◌==◌, List, [], ◌∷◌, ◌++◌, take, drop, length, Option, Some, None, refl, sym, ap, ap₂, ◌∙◌, subst, arith, append_assoc, take-append-drop}
 use Rattle.std.specs.List.{All}
-use Rattle.std.proofs.lemmas.Bool.{cases_lt, cases_eq, cases_Bool, le-leb, lt-leb, eq-eqb, ne_eqb}
+use Rattle.std.proofs.lemmas.Bool.{cases_lt, cases_eq, le-leb, lt-leb, eq-eqb, ne_eqb}
 use Rattle.std.proofs.lemmas.List.{length-take-le}
 use Rattle.std.proofs.lemmas.List.Elements.{All-nil, All-cons}
 use Rattle.grib_bits.specs.Bits.{bits_of, num}
 use Rattle.grib_bits.proofs.Numbers.{bits_of-num, num-lt}
 use Rattle.grib_coding.specs.declared.coding.Coding.{Coding}
 use Rattle.grib_coding.specs.Coding.{identifier_width}
-use Rattle.grib_coding.specs.Items.{Item, Run, Second, Split, Plain, IsItem, sequence, all_bits, item_bits}
+use Rattle.grib_coding.specs.Items.{Run, Second, Split, Plain, IsItem, sequence, all_bits}
 use Rattle.grib_coding.specs.Reading.{Front, Ended, Found, Coded, coded_of, and_then, front_number, front_sequence, front_list, front_reference, front_zero, front_plain, front_split, front_kind, front_item, skipped}
 use Rattle.grib_block_writing.specs.Written.{coded_bits, reference_bits, skip_of}
 
@@ -53,12 +53,11 @@ number_found width bits n rest is =
           let number : num front ≡ n = cc in
           let left : behind ≡ rest = cc in
           let long : length front ≡ width = length-take-le width bits enough in
-          let small : num front < 2 ^ length front = num-lt front in
-          (
+          let small : num front < 2 ^ length front = num-lt front in (
             sym (take-append-drop width bits)
-            ∙ (ap (λ (xs : List Bool). xs ++ behind) (sym (bits_of-num front))
-            ∙ (ap₂ (λ (w m : ℕ). bits_of w m ++ behind) long number
-            ∙ ap (λ (xs : List Bool). bits_of width n ++ xs) left)),
+                ∙ (ap (λ (xs : List Bool). xs ++ behind) (sym (bits_of-num front))
+                ∙ (ap₂ (λ (w m : ℕ). bits_of w m ++ behind) long number
+                ∙ ap (λ (xs : List Bool). bits_of width n ++ xs) left)),
             omega (arith, small, number, ap (λ (w : ℕ). 2 ^ w) long),
           )
     ]
@@ -127,8 +126,7 @@ reference_found c true bits reference rest is =
     let p = parts (front_number c.bits bits) (λ number rest'. Found (Some number) rest') reference rest is in
     let both : Found (Some p.value) p.rest ≡ Found reference rest = p.second in
     let some : Some p.value ≡ reference = cc in
-    let left : p.rest ≡ rest = cc in
-    (
+    let left : p.rest ≡ rest = cc in (
       (number_found c.bits bits p.value p.rest p.first).0 ∙ ap₂ (λ (r : Option ℕ) (xs : List Bool). reference_bits c r ++ xs) some left,
       ap skip_of (sym some),
     )

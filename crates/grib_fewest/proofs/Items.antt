@@ -1,12 +1,12 @@
 -- An item against the block that it tells: what it tells of the block, and how many bits it takes at least.
-use Rattle.std.proofs.Common.{lit<, inl, inr, min, ◌≡◌, ℕ, zero, suc, ◌+◌, ◌-◌, ◌*◌, ◌/◌, ◌%◌, ◌^◌, ◌<◌, ◌≤◌, Bool, true, false, cond, ◌&&◌, ◌==◌, nat_lt, List, [], ◌∷◌, ◌++◌, map, take, drop, replicate, length, Option, Some, None, sum, refl, sym, ap, ap₂, ◌∙◌, subst, arith, length-drop, length-append, take-append-drop}
-use Rattle.std.specs.List.{All, list_all}
-use Rattle.std.proofs.Math.Nat.{mul-le-mul, mul-le-mul_left, mul-le-mul_right}
+use Rattle.std.proofs.Common.{inl, inr, ◌≡◌, ℕ, ◌+◌, ◌-◌, ◌*◌, ◌/◌, ◌%◌, ◌^◌, ◌<◌, ◌≤◌, Bool, true, ◌&&◌, ◌==◌, List, [], ◌∷◌, ◌++◌, map, take, drop, replicate, length, Option, Some, None, sum, refl, sym, ap, ap₂, ◌∙◌, subst, arith, length-drop}
+use Rattle.std.specs.List.{All}
+use Rattle.std.proofs.Math.Nat.{mul-le-mul_left, mul-le-mul_right}
 use Rattle.std.proofs.lemmas.Bool.{cases_lt}
 use Rattle.std.proofs.lemmas.Bool.Decides.{nat_tests}
 use Rattle.std.proofs.lemmas.List.{length-map, length-replicate, drop-append-le, drop-drop, drop-take, take-take, drop_at, drop_all}
 use Rattle.std.proofs.lemmas.List.Sums.{sum_by-cons}
-use Rattle.std.proofs.lemmas.List.Elements.{All-nil, All-cons, All-head, All-tail, All-replicate, All-map, All-take, All-drop}
+use Rattle.std.proofs.lemmas.List.Elements.{All-cons, All-head, All-tail, All-replicate, All-map, All-take, All-drop}
 use Rattle.grib_coding.specs.declared.coding.Coding.{Coding}
 use Rattle.grib_coding.specs.Coding.{block_count}
 use Rattle.grib_coding.specs.Items.{Item, Run, Second, Split, Plain, IsItem, covered, item_codes, codes_of_pairs, joined}
@@ -19,7 +19,7 @@ use Rattle.grib_block_writing.specs.Blocks.{all_told, block_at, code_of, codes_o
 use Rattle.grib_block_writing.specs.Written.{coded_bits, skip_of}
 use Rattle.grib_block_writing.proofs.Shapes.{length-told, within_blocks}
 use Rattle.grib_fewest.proofs.Sizes.{head_size, size-second, size-plain, size-split}
-use Rattle.grib_fewest.proofs.Below.{IsBelow, front_below, front_reference, below_zeros, high-le, pairs-le, pairs-sum, first-less, highs-sum, length-joined, length-pairs}
+use Rattle.grib_fewest.proofs.Below.{IsBelow, front_below, front_reference, high-le, pairs-le, pairs-sum, first-less, highs-sum, length-joined, length-pairs}
 
 -- an item that is no run
 abbrev pub IsBlock : Item → Type 0

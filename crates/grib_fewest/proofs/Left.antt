@@ -1,21 +1,20 @@
 -- What is written from one block on: how many bits, and the run of zero blocks that it begins with.
-use Rattle.std.proofs.Common.{lit<, inl, inr, min, ◌≡◌, ℕ, zero, suc, ◌+◌, ◌-◌, ◌*◌, ◌/◌, ◌%◌, ◌^◌, ◌<◌, ◌≤◌, Bool, true, false, cond, ◌&&◌, ◌||◌, ◌==◌, nat_lt, List, [], ◌∷◌, ◌++◌, get_or, map, take, drop, length, Option, Some, None, refl, sym, ap, ap₂, ◌∙◌, subst, arith, length-drop, length-append}
-use Rattle.std.proofs.lemmas.Nat.{div-add-mod', mod-mul-add, mod_below}
-use Rattle.std.proofs.lemmas.Bool.{cases_lt, cases_eq, cases_Bool, eq-eqb, ne_eqb}
-use Rattle.std.proofs.lemmas.Bool.Decides.{nat_tests}
+use Rattle.std.proofs.Common.{inl, inr, min, ◌≡◌, ℕ, zero, suc, ◌+◌, ◌-◌, ◌*◌, ◌/◌, ◌%◌, ◌<◌, ◌≤◌, Bool, true, false, cond, ◌||◌, ◌==◌, List, [], ◌∷◌, get_or, take, drop, length, Option, refl, sym, ap, ap₂, ◌∙◌, arith, length-drop, length-append}
+use Rattle.std.proofs.lemmas.Nat.{div-add-mod', mod-mul-add}
+use Rattle.std.proofs.lemmas.Bool.{cases_eq, cases_Bool, eq-eqb, ne_eqb}
 use Rattle.std.proofs.lemmas.List.{drop-drop, get_or-drop}
 use Rattle.grib_coding.specs.declared.coding.Coding.{Coding}
-use Rattle.grib_coding.specs.Coding.{Fits, block_count, identifier_width}
+use Rattle.grib_coding.specs.Coding.{block_count, identifier_width}
 use Rattle.grib_coding.specs.Items.{Run}
 use Rattle.grib_coding.specs.Numbers.{Told}
 use Rattle.grib_coding.specs.Reading.{coded_of}
 use Rattle.grib_choice.specs.Choices.{bits_as, chosen}
 use Rattle.grib_choice.specs.Runs.{run_room, run_number}
 use Rattle.grib_block_writing.specs.Blocks.{all_told, blocks_of, block_at, codes_of, reference_of, is_zero, zero_blocks}
-use Rattle.grib_block_writing.specs.Written.{bits_from, coded_bits, chosen_item, reference_bits, run_length, skip_of}
+use Rattle.grib_block_writing.specs.Written.{bits_from, coded_bits, chosen_item, run_length, skip_of}
 use Rattle.grib_block_writing.proofs.Shapes.{piece_at, length-pieces}
 use Rattle.grib_block_writing.proofs.Runs.{run_bits, block_bits, number_is, none_left}
-use Rattle.grib_block_writing.proofs.Read.{RunOf, run_of, length-block}
+use Rattle.grib_block_writing.proofs.Read.{run_of, length-block}
 use Rattle.grib_block_writing.proofs.Lengths.{length-run, length-chosen}
 use Rattle.grib_fewest.proofs.Sizes.{head_size}
 

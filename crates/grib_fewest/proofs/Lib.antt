@@ -7,3 +7,4 @@ pub mod Steps
 pub mod ReadBack
 pub mod Found
 pub mod Parsed
+pub mod Ours

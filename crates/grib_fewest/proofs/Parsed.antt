@@ -1,5 +1,5 @@
 -- Bits that are read begin with the bits of a list of items.
-use Rattle.std.proofs.Common.{lit<, inl, inr, ◌⊎◌, ◌≡◌, ℕ, zero, suc, ◌+◌, ◌-◌, ◌*◌, ◌/◌, ◌%◌, ◌<◌, ◌≤◌, Bool, true, false, cond, nat_lt, ◌&&◌, ◌||◌, ◌==◌, List, [], ◌∷◌, ◌++◌, take, drop, length, Option, Some, None, refl, sym, ap, ap₂, ◌∙◌, subst, arith, append_assoc}
+use Rattle.std.proofs.Common.{inl, inr, ◌⊎◌, ◌≡◌, ℕ, zero, suc, ◌+◌, ◌-◌, ◌*◌, ◌%◌, ◌<◌, ◌≤◌, Bool, false, cond, ◌&&◌, ◌||◌, ◌==◌, List, [], ◌∷◌, ◌++◌, take, drop, length, Option, Some, None, refl, sym, ap, ap₂, ◌∙◌, arith, append_assoc}
 use Rattle.std.specs.List.{position}
 use Rattle.std.proofs.lemmas.Nat.{mod_below}
 use Rattle.std.proofs.lemmas.Bool.{cases_lt, cases_Bool, lt-leb, lt-ltb, le-ltb}
@@ -8,13 +8,13 @@ use Rattle.grib_coding.specs.Coding.{Fits, block_count, is_mapped, is_padded}
 use Rattle.grib_coding.specs.declared.fault.BlockFault.{BlockFault}
 use Rattle.grib_coding.specs.declared.fault.BlockFault.TheVariants.{Short, Block}
 use Rattle.grib_coding.specs.Items.{covered}
-use Rattle.grib_coding.specs.Numbers.{Told, told_after}
-use Rattle.grib_coding.specs.Reading.{Front, Found, Coded, Decoded, decoded, read_as, ended_by, unless_ended, unless_fault, after_item, padded, is_over, is_too_long, value_fault, item_fault, entries_of, front_item, items_from, behind as with_behind}
+use Rattle.grib_coding.specs.Numbers.{Told}
+use Rattle.grib_coding.specs.Reading.{Found, Coded, Decoded, decoded, read_as, ended_by, unless_ended, unless_fault, after_item, padded, is_over, is_too_long, value_fault, item_fault, entries_of, front_item, items_from}
 use Rattle.grib_block_writing.specs.Written.{coded_bits}
 use Rattle.grib_block_writing.proofs.Read.{ended, step}
 use Rattle.grib_block_writing.proofs.Zeros.{fits_block}
-use Rattle.grib_fewest.specs.Lists.{AreReadable, BeginWith, Cover, Tells, block_after, list_bits, told_by}
-use Rattle.grib_fewest.proofs.Found.{IsFound, found_or_ended, item_found}
+use Rattle.grib_fewest.specs.Lists.{AreReadable, BeginWith, Cover, block_after, list_bits, told_by}
+use Rattle.grib_fewest.proofs.Found.{found_or_ended, item_found}
 use Rattle.grib_fewest.proofs.Items.{covers_some}
 
 -- ---- one item
@@ -128,13 +128,15 @@ all_parsed c numbers bits fits unpadded is =
     let count = length numbers in
     let blocks = block_count c count in
     let good : (items_from blocks c count 0 bits).fault ≡ None = ap (λ (d : Decoded). d.fault) is in
-    let p = parse blocks c count 0 bits fits unpadded (omega arith) good in
-    (p.items, record {
-      tells = record {
-        whole = p.cover;
-        told = ap (take count) (sym p.entries) ∙ ap (λ (d : Decoded). d.entries) is;
-      };
-      readable = p.readable;
-      rest = p.rest;
-      stand = p.stand;
-    })
+    let p = parse blocks c count 0 bits fits unpadded (omega arith) good in (
+      p.items,
+      record {
+        tells = record {
+          whole = p.cover;
+          told = ap (take count) (sym p.entries) ∙ ap (λ (d : Decoded). d.entries) is;
+        };
+        readable = p.readable;
+        rest = p.rest;
+        stand = p.stand;
+      },
+    )

@@ -1,8 +1,8 @@
 -- The bits of a list of items are read as these items.
-use Rattle.std.proofs.Common.{lit<, inl, inr, min, ◌≡◌, ℕ, zero, suc, ◌+◌, ◌-◌, ◌*◌, ◌%◌, ◌<◌, ◌≤◌, Bool, true, false, cond, ◌&&◌, ◌||◌, ◌==◌, nat_lt, List, [], ◌∷◌, ◌++◌, get_or, map, take, drop, length, Option, Some, None, refl, sym, ap, ap₂, ◌∙◌, subst, arith, append_assoc}
+use Rattle.std.proofs.Common.{◌≡◌, ℕ, zero, suc, ◌+◌, ◌-◌, ◌*◌, ◌%◌, ◌≤◌, Bool, true, false, cond, ◌&&◌, ◌||◌, ◌==◌, nat_lt, List, [], ◌∷◌, ◌++◌, get_or, take, drop, length, Option, Some, None, refl, sym, ap, ap₂, ◌∙◌, subst, arith, append_assoc}
 use Rattle.std.specs.List.{All, position, position_or_len}
 use Rattle.std.proofs.lemmas.Nat.{mod_below}
-use Rattle.std.proofs.lemmas.Bool.{cases_Bool, le-ltb}
+use Rattle.std.proofs.lemmas.Bool.{le-ltb}
 use Rattle.std.proofs.lemmas.List.Elements.{All-nil, All-cons, All-head, All-tail, All-take, All-drop, All-get_or}
 use Rattle.std.proofs.lemmas.List.Sums.{position_or_len_is}
 use Rattle.grib_mapped.specs.Mapped.{mapped}
@@ -13,8 +13,7 @@ use Rattle.grib_coding.specs.declared.fault.BlockFault.{BlockFault}
 use Rattle.grib_coding.specs.declared.fault.BlockFault.TheVariants.{Block}
 use Rattle.grib_coding.specs.Items.{Item, IsItem, covered}
 use Rattle.grib_coding.specs.Numbers.{Told, Reference, Code, is_reference, told, told_after}
-use Rattle.grib_coding.specs.Reading.{Front, Found, Coded, Decoded, coded_of, decoded, read_as, ended_by, entries_of, entries_with, front_item, is_over, is_too_long, item_fault, items_from, skipped, value_fault, behind as with_behind}
-use Rattle.grib_block_writing.specs.Blocks.{block_at, reference_of}
+use Rattle.grib_coding.specs.Reading.{Found, Coded, Decoded, coded_of, decoded, read_as, entries_of, entries_with, front_item, is_over, is_too_long, item_fault, items_from, skipped, value_fault, behind as with_behind}
 use Rattle.grib_block_writing.specs.Written.{coded_bits, skip_of}
 use Rattle.grib_block_writing.proofs.Back.{front_back}
 use Rattle.grib_block_writing.proofs.Read.{ended, step}

@@ -1,12 +1,12 @@
 -- How many bits an item has, whatever its numbers are.
-use Rattle.std.proofs.Common.{lit<, ◌≡◌, ℕ, zero, suc, ◌+◌, ◌-◌, ◌*◌, ◌/◌, ◌%◌, ◌^◌, ◌<◌, ◌≤◌, Bool, List, [], ◌∷◌, ◌++◌, length, Option, Some, None, sum, refl, sym, ap, ◌∙◌, arith, length-append}
+use Rattle.std.proofs.Common.{◌≡◌, ℕ, ◌+◌, ◌-◌, ◌*◌, ◌^◌, List, [], ◌∷◌, ◌++◌, length, Option, sum, refl, ap, arith, length-append}
 use Rattle.std.proofs.lemmas.List.Sums.{sum_by-cons}
 use Rattle.grib_bits.specs.Bits.{bits_of}
 use Rattle.grib_bits.proofs.Numbers.{length-bits_of}
 use Rattle.grib_coding.specs.declared.coding.Coding.{Coding}
 use Rattle.grib_coding.specs.Coding.{identifier_width}
-use Rattle.grib_coding.specs.Items.{Item, Run, Second, Split, Plain, sequence, all_bits}
-use Rattle.grib_coding.specs.Reading.{Coded, coded_of}
+use Rattle.grib_coding.specs.Items.{Second, Split, Plain, sequence, all_bits}
+use Rattle.grib_coding.specs.Reading.{coded_of}
 use Rattle.grib_block_writing.specs.Written.{coded_bits, reference_bits, head_bits}
 use Rattle.grib_block_writing.proofs.Adding.{length-sequence}
 use Rattle.grib_block_writing.proofs.Heads.{second_parts, plain_parts, split_parts}

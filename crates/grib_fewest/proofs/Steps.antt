@@ -5,27 +5,25 @@
 --   told by a number of at most two more with one block more;
 -- - a block that is no zero block against an item of it: the codes of the block are no more than those of the item, which
 --   are the same or belong to no value, and the chosen item has the fewest bits.
-use Rattle.std.proofs.Common.{lit<, inl, inr, min, ◌≡◌, ℕ, zero, suc, ◌+◌, ◌-◌, ◌*◌, ◌/◌, ◌%◌, ◌^◌, ◌<◌, ◌≤◌, Bool, true, false, cond, ◌&&◌, ◌||◌, ◌==◌, nat_lt, List, [], ◌∷◌, ◌++◌, get_or, map, take, drop, length, Option, Some, None, refl, sym, ap, ap₂, ◌∙◌, subst, arith, length-append}
+use Rattle.std.proofs.Common.{inl, inr, ◌≡◌, ℕ, ◌+◌, ◌-◌, ◌*◌, ◌%◌, ◌<◌, ◌≤◌, Bool, true, false, ◌||◌, ◌==◌, List, [], ◌∷◌, take, drop, length, Option, refl, sym, ap, ◌∙◌, subst, arith, length-append}
 use Rattle.std.specs.List.{All}
-use Rattle.std.proofs.Math.Nat.{mul-le-mul_left}
 use Rattle.std.proofs.lemmas.Nat.{mod_below}
 use Rattle.std.proofs.lemmas.Bool.{cases_lt, cases_eq, eq-eqb}
 use Rattle.std.proofs.lemmas.Bool.Decides.{nat_tests}
 use Rattle.grib_coding.specs.declared.coding.Coding.{Coding}
-use Rattle.grib_coding.specs.Coding.{Fits, block_count, identifier_width}
-use Rattle.grib_coding.specs.Items.{Item, Run, Second, Split, Plain, IsItem, covered}
+use Rattle.grib_coding.specs.Coding.{Fits, block_count}
+use Rattle.grib_coding.specs.Items.{Item, Run, Second, Split, Plain, covered}
 use Rattle.grib_coding.specs.Numbers.{Told, told_after}
 use Rattle.grib_coding.specs.Reading.{Coded, coded_of, entries_with}
-use Rattle.grib_choice.specs.Choices.{bits_as, chosen}
 use Rattle.grib_choice.specs.Runs.{run_room, run_number}
-use Rattle.grib_block_writing.specs.Blocks.{all_told, block_at, code_of, codes_of, reference_of, is_zero}
-use Rattle.grib_block_writing.specs.Written.{coded_bits, skip_of, written}
+use Rattle.grib_block_writing.specs.Blocks.{all_told, block_at, code_of, codes_of, is_zero}
+use Rattle.grib_block_writing.specs.Written.{coded_bits, written}
 use Rattle.grib_block_writing.proofs.Zeros.{fits_block}
 use Rattle.grib_block_writing.proofs.Lengths.{length-run, skip_few}
 use Rattle.grib_fewest.specs.Lists.{Cover, AreInSegments, Tells, told_by, list_bits, block_after}
 use Rattle.grib_fewest.proofs.Sizes.{head_size}
 use Rattle.grib_fewest.proofs.Below.{IsBelow, below_zeros}
-use Rattle.grib_fewest.proofs.Items.{IsBlock, covers_one, covers_some, entries-reference, length-entries, run_zeros, blocks_below, same_reference, told_behind, run_is_zero, chosen-fewest, five_bits}
+use Rattle.grib_fewest.proofs.Items.{IsBlock, covers_one, covers_some, run_zeros, blocks_below, told_behind, run_is_zero, chosen-fewest, five_bits}
 use Rattle.grib_fewest.proofs.At.{At, long, reference_at}
 use Rattle.grib_fewest.proofs.Left.{zeros_at, room_at, room_is, ends_at, zeros_few, zeros_many, left, left-none, left-run, left-block, left-inside}
 

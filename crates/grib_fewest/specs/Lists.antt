@@ -1,14 +1,15 @@
 -- The lists of items that numbers can be coded by (CCSDS 121.0-B, which leaves the choice among them to the coder; WMO-No.
 -- 306, Volume I.2, FM 92 GRIB edition 2, data template 7.42).
-use Rattle.std.specs.Prelude.{◌≡◌, ℕ, ◌+◌, ◌%◌, ◌≤◌, ◌<◌, Bool, false, List, [], ◌∷◌, ◌++◌, length, take}
+use Rattle.std.specs.Prelude.{◌≡◌, ℕ, ◌+◌, ◌*◌, ◌%◌, ◌≤◌, ◌<◌, Bool, false, List, [], ◌∷◌, ◌++◌, length, take}
 use Rattle.std.specs.List.{flat_map}
 use Rattle.grib_coding.specs.declared.coding.Coding.{Coding}
-use Rattle.grib_coding.specs.Coding.{block_count}
+use Rattle.grib_coding.specs.Coding.{block_count, identifier_width}
 use Rattle.grib_coding.specs.Items.{IsItem, covered}
 use Rattle.grib_coding.specs.Numbers.{Told, told_after}
 use Rattle.grib_coding.specs.Reading.{Coded, entries_of, is_too_long}
 use Rattle.grib_choice.specs.Runs.{run_room}
-use Rattle.grib_block_writing.specs.Written.{coded_bits, skip_of}
+use Rattle.grib_block_writing.specs.Blocks.{blocks_of}
+use Rattle.grib_block_writing.specs.Written.{coded_bits, items_of, skip_of}
 
 -- the block that follows an item whose first block is this one
 abbrev pub block_after : Coding → ℕ → Coded → ℕ
@@ -55,3 +56,11 @@ pub record BeginWith (c : Coding) (numbers : List ℕ) (bits : List Bool) (items
   pub readable : AreReadable c 0 items
   pub rest : List Bool
   pub stand : bits ≡ list_bits c items ++ rest
+
+-- the items that are written of numbers
+abbrev pub items_written : Coding → List ℕ → List Coded
+items_written c numbers = items_of c 0 0 (blocks_of c numbers)
+
+-- the bits of a block that is told by its codes as they are, its reference among them
+abbrev pub plain_bits : Coding → ℕ
+plain_bits c = identifier_width c + c.block * c.bits
