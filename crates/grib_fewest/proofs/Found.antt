@@ -136,10 +136,19 @@ record Behind (c : Coding) (identifier : ℕ) (bits : List Bool) (coded : Coded)
   pub stand : bits_of (identifier_width c) identifier ++ bits ≡ coded_bits c coded ++ rest
   pub is : IsItem c (skip_of coded.reference) coded.item
 
--- three parts, and what follows them
-three : (one two three' rest : List Bool) → one ++ (two ++ (three' ++ rest)) ≡ (one ++ (two ++ three')) ++ rest
-three one two three' rest =
-    ap (λ (xs : List Bool). one ++ xs) (sym (append_assoc two three' rest)) ∙ sym (append_assoc one (two ++ three') rest)
+-- what stands behind an identifier, in two parts and in three
+two_stand : (head one two bits rest₁ rest₂ rest : List Bool) → bits ≡ one ++ rest₁ → rest₁ ≡ two ++ rest₂ → rest₂ ≡ rest
+    → head ++ bits ≡ (head ++ (one ++ two)) ++ rest
+two_stand head one two bits rest₁ rest₂ rest first second left =
+    ap (λ (xs : List Bool). head ++ xs) (first ∙ (ap (λ (xs : List Bool). one ++ xs) (second ∙ ap (λ (xs : List Bool). two ++ xs) left)
+    ∙ sym (append_assoc one two rest)))
+    ∙ sym (append_assoc head (one ++ two) rest)
+
+three_stand : (head one two last bits rest₁ rest₂ rest₃ rest : List Bool) → bits ≡ one ++ rest₁ → rest₁ ≡ two ++ rest₂ → rest₂ ≡ last ++ rest₃
+    → rest₃ ≡ rest → head ++ bits ≡ (head ++ (one ++ (two ++ last))) ++ rest
+three_stand head one two last bits rest₁ rest₂ rest₃ rest first second third left =
+    two_stand head one (two ++ last) bits rest₁ rest rest first
+    (second ∙ (ap (λ (xs : List Bool). two ++ xs) (third ∙ ap (λ (xs : List Bool). last ++ xs) left) ∙ sym (append_assoc two last rest))) refl
 
 run_found : (c : Coding) (t : Bool) (bits : List Bool) (coded : Coded) (rest : List Bool) → front_zero c t 0 bits ≡ Found coded rest
     → Behind c 0 (false ∷ bits) coded rest
@@ -151,12 +160,9 @@ run_found c t bits coded rest is =
     let whole : coded_of p.value (Run q.value) ≡ coded = cc in
     let left : q.rest ≡ rest = cc in
     let r = reference_found c t bits p.value p.rest p.first in
-    let body : bits ≡ reference_bits c p.value ++ (sequence q.value ++ rest) =
-    r.0 ∙ ap (λ (xs : List Bool). reference_bits c p.value ++ xs)
-    (sequence_found p.rest q.value q.rest q.first ∙ ap (λ (xs : List Bool). sequence q.value ++ xs) left) in
     subst (λ (co : Coded). Behind c 0 (false ∷ bits) co rest) whole (record {
-      stand = ap (λ (xs : List Bool). bits_of (identifier_width c) 0 ++ (false ∷ xs)) body
-          ∙ three (bits_of (identifier_width c) 0) (false ∷ reference_bits c p.value) (sequence q.value) rest;
+      stand = two_stand (bits_of (identifier_width c) 0) (false ∷ reference_bits c p.value) (sequence q.value) (false ∷ bits) p.rest q.rest rest
+          (ap (λ (xs : List Bool). false ∷ xs) r.0) (sequence_found p.rest q.value q.rest q.first) left;
       is = tt;
     })
 
@@ -171,12 +177,9 @@ second_found c t bits coded rest is =
     let left : q.rest ≡ rest = cc in
     let r = reference_found c t bits p.value p.rest p.first in
     let numbers = sequences_found (c.block / 2) p.rest q.value q.rest q.first in
-    let body : bits ≡ reference_bits c p.value ++ (all_bits sequence q.value ++ rest) =
-    r.0 ∙ ap (λ (xs : List Bool). reference_bits c p.value ++ xs)
-    (numbers.stand ∙ ap (λ (xs : List Bool). all_bits sequence q.value ++ xs) left) in
     subst (λ (co : Coded). Behind c 0 (true ∷ bits) co rest) whole (record {
-      stand = ap (λ (xs : List Bool). bits_of (identifier_width c) 0 ++ (true ∷ xs)) body
-          ∙ three (bits_of (identifier_width c) 0) (true ∷ reference_bits c p.value) (all_bits sequence q.value) rest;
+      stand = two_stand (bits_of (identifier_width c) 0) (true ∷ reference_bits c p.value) (all_bits sequence q.value) (true ∷ bits) p.rest q.rest rest
+          (ap (λ (xs : List Bool). true ∷ xs) r.0) numbers.stand left;
       is = numbers.long;
     })
 
@@ -202,12 +205,9 @@ plain_found c t bits coded rest some is =
     let left : q.rest ≡ rest = cc in
     let r = reference_found c t bits p.value p.rest p.first in
     let numbers = numbers_found c.bits count p.rest q.value q.rest q.first in
-    let body : bits ≡ reference_bits c p.value ++ (all_bits (bits_of c.bits) q.value ++ rest) =
-    r.0 ∙ ap (λ (xs : List Bool). reference_bits c p.value ++ xs)
-    (numbers.stand ∙ ap (λ (xs : List Bool). all_bits (bits_of c.bits) q.value ++ xs) left) in
     let ones = bits_of (identifier_width c) (2 ^ identifier_width c - 1) in
     subst (λ (co : Coded). Behind c (2 ^ identifier_width c - 1) bits co rest) whole (record {
-      stand = ap (λ (xs : List Bool). ones ++ xs) body ∙ three ones (reference_bits c p.value) (all_bits (bits_of c.bits) q.value) rest;
+      stand = two_stand ones (reference_bits c p.value) (all_bits (bits_of c.bits) q.value) bits p.rest q.rest rest r.0 numbers.stand left;
       is = (omega (arith, numbers.long, r.1, skipped_few t, some), numbers.all);
     })
 
@@ -226,15 +226,10 @@ split_found c t k bits coded rest some few is =
     let r = reference_found c t bits p.value p.rest p.first in
     let highs = sequences_found count p.rest q.value q.rest q.first in
     let lows = numbers_found k count q.rest u.value u.rest u.first in
-    let high_bits = all_bits sequence q.value in
-    let low_bits = all_bits (bits_of k) u.value in
-    let body : bits ≡ reference_bits c p.value ++ ((high_bits ++ low_bits) ++ rest) =
-    r.0 ∙ ap (λ (xs : List Bool). reference_bits c p.value ++ xs)
-    (highs.stand ∙ (ap (λ (xs : List Bool). high_bits ++ xs) (lows.stand ∙ ap (λ (xs : List Bool). low_bits ++ xs) left)
-    ∙ sym (append_assoc high_bits low_bits rest))) in
     let identifier = bits_of (identifier_width c) (k + 1) in
     subst (λ (co : Coded). Behind c (k + 1) bits co rest) whole (record {
-      stand = ap (λ (xs : List Bool). identifier ++ xs) body ∙ three identifier (reference_bits c p.value) (high_bits ++ low_bits) rest;
+      stand = three_stand identifier (reference_bits c p.value) (all_bits sequence q.value) (all_bits (bits_of k) u.value) bits p.rest q.rest u.rest rest
+          r.0 highs.stand lows.stand left;
       is = (few, omega (arith, highs.long, r.1, skipped_few t, some), omega (arith, lows.long, r.1, skipped_few t, some), lows.all);
     })
 
