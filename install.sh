@@ -1,7 +1,7 @@
 #!/usr/bin/env bash
 # Puts the proved program, with what it was built from, grib-parallel, the man page, completion for bash, the parameter
-# table, the pages and their examples under PREFIX, and takes them away again. The program is the shipped one, or else one
-# that is built first.
+# table, the module for Python, the pages and their examples under PREFIX, and takes them away again. The program is the
+# shipped one, or else one that is built first.
 #
 #     ./install.sh [PREFIX]            PREFIX is ~/.local where none is given, and begins with '/'
 #     ./install.sh remove [PREFIX]     also as PREFIX/share/grib/install.sh remove, where this folder is gone
@@ -63,6 +63,7 @@ files() {
 644 share/bash-completion/completions/grib share/bash-completion/completions/grib
 644 params/standard.csv share/grib/params/standard.csv
 644 params/surfaces.csv share/grib/params/surfaces.csv
+644 share/python/tachilwe.py share/grib/python/tachilwe.py
 755 install.sh share/grib/install.sh
 644 README.md share/doc/grib/README.md
 644 docs/GUIDE.md share/doc/grib/docs/GUIDE.md
@@ -86,6 +87,7 @@ files() {
 644 examples/four-points.grib2 share/doc/grib/examples/four-points.grib2
 644 examples/south-north.grib2 share/doc/grib/examples/south-north.grib2
 644 examples/two-fields.grib2 share/doc/grib/examples/two-fields.grib2
+755 examples/plot.py share/doc/grib/examples/plot.py
 FILES
 }
 # Links beside them: what they lead to, and their place.
@@ -153,6 +155,13 @@ take_away() { # PLACE..
   return "$failed"
 }
 
+# Takes away what Python made of the module where it was used.
+remove_compiled() {
+  local folder=$under/share/grib/python/__pycache__
+  rm -f -- "$folder"/tachilwe.*.pyc
+  rmdir -- "$folder" 2>/dev/null || :
+}
+
 # What was put at each place, by the list, or several things where an installation was broken off.
 declare -A ours=()
 made='' # whether PREFIX was made
@@ -176,6 +185,7 @@ remove() {
     return
   fi
   mapfile -t places < <(printf '%s\n' "${!ours[@]}" | sort)
+  remove_compiled
   take_away "${places[@]}" || fail "not all of grib could be taken away from $under"
   rm -f -- "$under/$installed" || fail "cannot take away $under/$installed"
   remove_folders "$installed"

@@ -1,210 +1,309 @@
 #!/usr/bin/env python3
 """Compares CCSDS packing (5.42) with ecCodes and libaec on files: ccsds.py PROGRAM [FILE..]
 
-Needs ecCodes' tools, libaec and a C compiler (Debian: libeccodes-tools, libaec-dev, gcc). FILE.. are by default all files of
-Debian's python-grib-doc. Each message of edition 2 whose values PROGRAM reads is handed over by itself:
+Needs ecCodes' tools, ecCodes for Python with NumPy, libaec and a C compiler (Debian: libeccodes-tools, python3-eccodes,
+libaec-dev, gcc; run it by the Python that has these, as /usr/bin/python3). FILE.. are by default all files of Debian's
+python-grib-doc. The messages of edition 2 of a file are handed over together, so that a program runs once for each file:
 
-- ours: `repack to=42 profile=open`. ecCodes has to read the same values from it as from the message, each to its last
-  digit; libaec has to read the numbers that `repack to=0` writes; Section 7 may not be larger than what libaec codes of
-  them; `dump` has to print the same points, and `repack to=0` of both has to be the same octets. The four block sizes of
-  `repack to=least profile=open` are tried by that too: no message may become longer, and `dump` stays.
-- theirs: `grib_set -r -s packingType=grid_ccsds` of the message in simple packing. What is accepted has to have, for ecCodes,
-  the values that `dump profile=open` prints, and `repack to=42` of it no more octets. What is refused by ScaledRange is counted:
-  ecCodes 2.28 writes such messages, as far as was seen, where the decimal scale factor is not 0; refused for another
-  reason, or with a decimal scale factor of 0, is a finding.
+- ours: `repack to=42 profile=open`. ecCodes has to read the same values from it as from the messages, each to its last
+  bit; libaec has to read the numbers that `repack to=0` writes; Section 7 may not be larger than what libaec codes of
+  them; `repack to=0` of what was packed has to give the octets that `repack to=0` gives of the messages, so that each
+  scaled integer and each missing point is the same. The four block sizes of `repack to=least profile=open` are tried by
+  that too: no message may become longer, nor be longer than in blocks of 32.
+- theirs: `grib_set -r -s packingType=grid_ccsds`. Of what is accepted ecCodes has to read the values that
+  `values profile=open` writes: the same scaled integer at each point, and the same points missing (how many are the same
+  number of 64 bits is counted), and `repack to=42` of it may have no more octets. What is refused by ScaledRange is
+  counted: ecCodes 2.28 writes such messages, as far as was seen, where the decimal scale factor is not 0; refused for
+  another reason, or with a decimal scale factor of 0, is a finding.
 
-Prints for each file what agrees and what does not, how many octets Sections 7 have and how many libaec codes, and each
-finding; the status is 1 if there is one."""
+Prints for each file what agrees and what does not, how many octets Sections 7 have and how many libaec codes, at the end
+the sums, and each finding; the status is 1 if there is one."""
 import collections
 import glob
+import itertools
+import math
 import os
+import struct
 import subprocess
 import sys
 import tempfile
 
-from messages import messages, our_fields
+import eccodes
+import numpy
+
+from keys import fields
+from messages import messages
 
 top = os.path.dirname(os.path.dirname(os.path.abspath(__file__)))
 FILES = "/usr/share/doc/python-grib-doc/examples"
-findings = []
+MISSING = 1.5e300  # what ecCodes is told to put at missing points
+program, findings = "", []
 
 
-def run(words, octets):
-    return subprocess.run(words, input=octets, capture_output=True, check=False)
+class Inputs:
+    """Files of one folder, which the programs read and write."""
+
+    def __init__(self, folder, name):
+        self.folder, self.name, self.counts = folder, name, collections.Counter()
+
+    def write(self, name, parts):
+        with open(f"{self.folder}/{name}", "wb") as file:
+            file.writelines(parts)
+
+    def read(self, name):
+        with open(f"{self.folder}/{name}", "rb") as file:
+            return file.read()
+
+    def ran(self, source, target, *words):
+        """The status of a run of the program from one file to another, and what its notes say of messages, by their places."""
+        with open(f"{self.folder}/{source}", "rb") as file, open(f"{self.folder}/{target}", "wb") as to:
+            done = subprocess.run([program, *words], stdin=file, stdout=to, stderr=subprocess.PIPE, check=False)
+        notes = [line.split() for line in done.stderr.decode().splitlines()]
+        said = {int(words[4]): (words[0], *words[7:8] if words[0] == "refused" else words[5:7]) for words in notes if words[3:4] == ["at"]}
+        return done.returncode, said
+
+    def hold(self, what, results):
+        """Counts what agrees, and notes what does not, by the number of the message or field."""
+        for number, so in enumerate(results, 1):
+            self.counts[what] += bool(so)
+            if not so:
+                self.counts[what + ": NOT SO"] += 1
+                findings.append(f"{self.name}, {number}: not so: {what}")
 
 
-def hold(so, counts, name, what):
-    """Counts what was compared, and notes what does not hold."""
-    counts[what if so else what + ": NOT SO"] += 1
-    if not so:
-        findings.append(f"{name}: not so: {what}")
+def places(parts):
+    """Where messages that follow one another begin."""
+    return [0, *itertools.accumulate(len(part) for part in parts)][: len(parts)]
 
 
-def values_by_eccodes(message):
-    """The values that ecCodes reads, in the order of the data and to the last digit, None where it fails."""
-    with tempfile.NamedTemporaryFile("w") as rules:
-        rules.write('print "[values%.17g!1]";')
-        rules.flush()
-        done = run(["grib_filter", rules.name, "-"], message)
-    return done.stdout.split() if done.returncode == 0 and b"ECCODES ERROR" not in done.stderr else None
+def kept_of(parts, said):
+    return [part for at, part in zip(places(parts), parts) if at not in said]
 
 
-def points(program, message):
-    """What `dump` prints, without the packing, its bits and the number of its values."""
-    done = run([program, "dump", "profile=open"], message)
-    return done.returncode, [line.split(" packing=")[0] for line in done.stdout.decode().splitlines()]
+def five_of(message):
+    """The Section 5 of each field of a message."""
+    return [sections[5] for sections in fields(message)]
 
 
-def sections(message):
-    """The sections of a message, each with its number."""
-    at = 16
-    while message[at : at + 4] != b"7777":
-        length = int.from_bytes(message[at : at + 4], "big")
-        yield message[at + 4], message[at : at + length]
-        at += length
+def scale_of(five):
+    """R, E and D of a field."""
+    reference, binary, decimal = struct.unpack(">fHH", five[11:19])
+    signed = [(0x8000 - scale) if scale & 0x8000 else scale for scale in (binary, decimal)]
+    return (reference, *signed)
 
 
-def has_no_groups(message):
-    """Whether a field of the message has groups by its template and none by its number: ecCodes then reads what the
-    section does not hold."""
-    return any(number == 5 and section[9:11] in (b"\0\2", b"\0\3") and section[31:35] == bytes(4) for number, section in sections(message))
+def has_no_groups(five):
+    """Whether a field has groups by its template and none by its number: ecCodes then reads what Section 7 does not hold."""
+    return five[9:11] in (b"\0\2", b"\0\3") and five[31:35] == bytes(4)
 
 
-def decimal_scales(message):
-    """The decimal scale factors of the fields, as they are encoded."""
-    return {int.from_bytes(section[17:19], "big") & 0x7FFF for number, section in sections(message) if number == 5}
+def by_eccodes(path):
+    """The values of each field that ecCodes reads, NaN where they are missing; None for a field that it does not read."""
+    with open(path, "rb") as file:
+        while True:
+            try:
+                handle = eccodes.codes_grib_new_from_file(file)
+            except eccodes.CodesInternalError:
+                yield None
+                continue
+            if handle is None:
+                return
+            try:
+                eccodes.codes_set(handle, "missingValue", MISSING)
+                values = eccodes.codes_get_values(handle)
+                values[values == MISSING] = math.nan
+                yield values
+            except eccodes.CodesInternalError:
+                yield None
+            finally:
+                eccodes.codes_release(handle)
 
 
-class Libaec:
-    """The small program over libaec."""
-
-    def __init__(self, folder):
-        self.program, self.folder = f"{folder}/ccsds", folder
-        words = ["gcc", "-O2", "-Wall", "-Wextra", "-std=gnu11", "-o", self.program, f"{top}/bench/ccsds.c", "-laec"]
-        if subprocess.run(words, check=False).returncode != 0:
-            sys.exit("bench/ccsds.c was not built (Debian: gcc, libaec-dev)")
-
-    def compared(self, simple, coded):
-        """For each field its bits, values, octets of coded bits, those of libaec, and whether libaec reads the same."""
-        for name, octets in (("simple", simple), ("coded", coded)):
-            with open(f"{self.folder}/{name}", "wb") as file:
-                file.write(octets)
-        done = run([self.program, "compare", f"{self.folder}/simple", f"{self.folder}/coded"], b"")
-        if done.returncode != 0:
-            return None
-        lines = [line.split() for line in done.stdout.decode().splitlines()]
-        return [(*map(int, words[:4]), words[4] == "same") for words in lines]
+def by_ours(path):
+    """The arrays that `values` writes, as they come."""
+    with open(path, "rb") as file, subprocess.Popen([program, "values", "profile=open"], stdin=file, stdout=subprocess.PIPE) as run:
+        while run.stdout.peek(1):
+            yield numpy.lib.format.read_array(run.stdout).ravel()
 
 
-def compare_coded(libaec, counts, name, simple, coded):
+def same(one, other):
+    """Whether ecCodes reads the same numbers in both."""
+    return one is not None and other is not None and numpy.array_equal(one, other, equal_nan=True)
+
+
+def scaled(values, five):
+    """The scaled integers that values stand for."""
+    reference, binary, decimal = scale_of(five)
+    return numpy.rint((values * 10.0**decimal - reference) / 2.0**binary)
+
+
+def compare_libaec(files, tool, simple, coded):
     """Coded messages beside the same ones in simple packing, by libaec."""
-    fields = libaec.compared(simple, coded)
-    hold(fields is not None, counts, name, "messages that libaec takes")
-    for bits, values, ours, theirs, same in fields or []:
-        counts["values"] += values
-        if bits == 0 or values == 0:
-            counts["fields of one value or none"] += 1
+    done = subprocess.run([tool, "compare", f"{files.folder}/{simple}", f"{files.folder}/{coded}"], capture_output=True, check=False)
+    lines = [line.split() for line in done.stdout.decode().splitlines()]
+    files.hold("files that libaec takes", [done.returncode == 0])
+    some = [(int(ours), int(theirs), told == "same") for bits, values, ours, theirs, told in lines if bits != "0" and values != "0"]
+    files.counts["values"] += sum(int(line[1]) for line in lines)
+    files.counts["fields of one value or none"] += len(lines) - len(some)
+    files.hold("fields that libaec reads", [told for _, _, told in some])
+    files.hold("fields with no more octets than libaec's", [ours <= theirs for ours, theirs, _ in some])
+    files.counts["octets of ours"] += sum(ours for ours, _, _ in some)
+    files.counts["octets of libaec"] += sum(theirs for _, theirs, _ in some)
+
+
+def compare_ours(files, tool, parts):
+    """What ours packs of these messages."""
+    _, said = files.ran("all", "simple", "repack", "to=0", "profile=open", "refused=pass", "kept=pass")
+    files.counts.update(f"left out: {' '.join(cause)}" for cause in said.values())
+    parts, simple = kept_of(parts, said), list(messages(files.read("simple")))
+    if not parts:
+        return
+    files.write("in", parts)
+    _, said = files.ran("in", "coded", "repack", "to=42", "profile=open", "kept=pass")
+    files.counts.update(f"not packed: {' '.join(cause)}" for cause in said.values())
+    simple = [part for at, part in zip(places(parts), simple) if at not in said]
+    parts, coded = kept_of(parts, said), list(messages(files.read("coded")))
+    files.write("in", parts)
+    files.write("simple", simple)
+    files.hold("files of which each message is packed", [len(parts) == len(simple) == len(coded)])
+    files.counts["messages"] += len(parts)
+
+    files.ran("coded", "back", "repack", "to=0", "profile=open")
+    back = list(messages(files.read("back")))
+    files.hold("messages that come back", [one == other for one, other in itertools.zip_longest(simple, back)])
+    _, said = files.ran("coded", "refused", "check", "refused=pass")
+    files.hold("messages that are refused without profile=open", [said.get(at) == ("refused", "Ccsds") for at in places(coded)])
+    compare_read(files, parts)
+    compare_libaec(files, tool, "simple", "coded")
+
+    files.ran("in", "least", "repack", "to=least", "profile=open")
+    files.ran("least", "back", "repack", "to=0", "profile=open")
+    least, back = list(messages(files.read("least"))), list(messages(files.read("back")))
+    files.hold("messages that come back from the fewest octets", [one == other for one, other in itertools.zip_longest(simple, back)])
+    files.hold("messages that do not become longer", [len(one) <= len(other) for one, other in zip(least, parts, strict=True)])
+    files.hold("messages that are no longer than in blocks of 32", [len(one) <= len(other) for one, other in zip(least, coded, strict=True)])
+    files.counts["octets of the messages"] += sum(map(len, parts))
+    files.counts["octets in blocks of 32"] += sum(map(len, coded))
+    files.counts["octets in the fewest"] += sum(map(len, least))
+
+
+def compare_read(files, parts):
+    """What ecCodes reads of the messages before and after."""
+    fives = [five for part in parts for five in five_of(part)]
+    told = []
+    for five, before, after in zip(fives, by_eccodes(f"{files.folder}/in"), by_eccodes(f"{files.folder}/coded"), strict=True):
+        if before is None:
+            files.counts["fields that ecCodes does not read"] += 1
+        elif has_no_groups(five):
+            files.counts["fields with no groups, which ecCodes reads otherwise"] += 1
+        else:
+            told.append(same(before, after))
+            files.counts["values that ecCodes reads"] += len(before)
+    files.hold("fields of which ecCodes reads the same values", told)
+
+
+def set_by_eccodes(files, parts):
+    """What grib_set packs of them: together, or each by itself if it does not take all."""
+    words = ["grib_set", "-r", "-s", "packingType=grid_ccsds", f"{files.folder}/in", f"{files.folder}/set"]
+
+    def done_with(some):
+        files.write("in", some)
+        files.write("set", [])
+        return subprocess.run(words, capture_output=True, check=False).returncode == 0 and files.read("set")
+
+    if octets := done_with(parts):
+        return octets
+    packed = [done_with([part]) for part in parts]
+    files.counts["messages that ecCodes does not pack"] += packed.count(False) + packed.count(b"")
+    return b"".join(octets for octets in packed if octets)
+
+
+def compare_theirs(files, parts):
+    """What ecCodes packs of these messages, which becomes a message for each field."""
+    coded = list(messages(set_by_eccodes(files, parts)))
+    if not coded:
+        return
+    files.counts["messages packed by ecCodes"] += len(coded)
+    files.write("theirs", coded)
+    _, said = files.ran("theirs", "checked", "check", "profile=open", "refused=pass")
+    for at, part in zip(places(coded), coded):
+        if at in said:
+            known = said[at] == ("refused", "ScaledRange") and all(scale_of(five)[2] != 0 for five in five_of(part))
+            files.hold(f"messages packed by ecCodes and refused: {said[at][1]}, the decimal scale factor not 0", [known])
+    count_wrong(files, parts, coded, said)
+    coded = kept_of(coded, said)
+    if not coded:
+        return
+    files.write("theirs", coded)
+    told = []
+    for part, ours, theirs in zip(coded, by_ours(f"{files.folder}/theirs"), by_eccodes(f"{files.folder}/theirs"), strict=True):
+        five, = five_of(part)
+        told.append(theirs is not None and numpy.array_equal(scaled(ours, five), scaled(theirs, five), equal_nan=True))
+        if told[-1]:
+            files.counts["values of them"] += len(ours)
+            files.counts["values that are the same number of 64 bits"] += int(numpy.count_nonzero((ours == theirs) | numpy.isnan(ours)))
+    files.hold("messages packed by ecCodes that are read alike", told)
+    files.ran("theirs", "ours", "repack", "to=42", "profile=open")
+    ours = list(messages(files.read("ours")))
+    files.hold("messages with no more octets than ecCodes wrote", [len(one) <= len(other) for one, other in zip(ours, coded, strict=True)])
+    files.counts["octets by ecCodes"] += sum(map(len, coded))
+    files.counts["octets by ours of the same"] += sum(map(len, ours))
+
+
+def count_wrong(files, parts, coded, said):
+    """Which messages ecCodes itself cannot read again, or reads values of that are further off than a step: a finding only
+    where the decimal scale factor is 0."""
+    fives = [five for part in parts for five in five_of(part)]
+    if len(fives) != len(coded):
+        files.counts["messages packed by ecCodes that were not compared with what it packed"] += len(coded)
+        return
+    files.write("in", parts)
+    pairs = zip(by_eccodes(f"{files.folder}/in"), by_eccodes(f"{files.folder}/theirs"), strict=True)
+    for at, part, five, (before, after) in zip(places(coded), coded, fives, pairs, strict=True):
+        own, = five_of(part)
+        reference, binary, decimal = scale_of(own)
+        step = (2.0**binary + abs(reference) * 2.0**-23) / 10.0**decimal
+        if before is None or has_no_groups(five):
             continue
-        hold(same, counts, name, "fields that libaec reads")
-        hold(ours <= theirs, counts, name, "fields with no more octets than libaec's")
-        counts["octets of ours"] += ours
-        counts["octets of libaec"] += theirs
+        accepted = "refused" if at in said else "accepted"
+        if after is None:
+            files.counts[f"{accepted}, and ecCodes does not read what it wrote"] += 1
+        elif not numpy.array_equal(numpy.isnan(before), numpy.isnan(after)) or numpy.nanmax(abs(before - after), initial=0) > step:
+            files.counts[f"{accepted}, and ecCodes reads other values than it packed"] += 1
+        else:
+            continue
+        if decimal == 0:
+            findings.append(f"{files.name}: ecCodes packed a message wrongly whose decimal scale factor is 0, at {at}")
 
 
-def compare_ours(program, libaec, counts, name, message, simple):
-    """What ours packs."""
-    packed = run([program, "repack", "to=42", "profile=open"], message)
-    if packed.returncode == 3:
-        counts["not packed: " + " ".join(packed.stderr.decode().split()[3:4])] += 1
-        return
-    hold(packed.returncode == 0, counts, name, "messages that are packed")
-    if packed.returncode != 0:
-        return
-    coded = packed.stdout
-    before = points(program, message)
-    hold(before[0] == 0 and points(program, coded) == before, counts, name, "dumps that are the same")
-    hold(run([program, "repack", "to=0", "profile=open"], coded).stdout == simple, counts, name, "messages that come back")
-    hold(run([program, "check"], coded).returncode == 2, counts, name, "messages that are refused without profile=open")
-    theirs = values_by_eccodes(message)
-    if theirs is None:
-        counts["messages that ecCodes does not read"] += 1
-    elif has_no_groups(message):
-        counts["messages with no groups, which ecCodes reads otherwise"] += 1
-    else:
-        hold(values_by_eccodes(coded) == theirs, counts, name, "messages of which ecCodes reads the same values")
-    compare_coded(libaec, counts, name, simple, coded)
-    least = run([program, "repack", "to=least", "profile=open"], message)
-    hold(least.returncode == 0 and len(least.stdout) <= len(message), counts, name, "messages that do not become longer")
-    hold(points(program, least.stdout) == before, counts, name, "dumps that are the same in the fewest octets")
-    hold(len(least.stdout) <= len(coded), counts, name, "messages that are no longer than in blocks of 32")
-    counts["octets of the messages"] += len(message)
-    counts["octets in blocks of 32"] += len(coded)
-    counts["octets in the fewest"] += len(least.stdout)
-
-
-def compare_theirs(program, counts, name, simple):
-    """What ecCodes packs."""
-    with tempfile.TemporaryDirectory() as folder:
-        with open(f"{folder}/in", "wb") as file:
-            file.write(simple)
-        done = run(["grib_set", "-r", "-s", "packingType=grid_ccsds", f"{folder}/in", f"{folder}/out"], b"")
-        if done.returncode != 0 or not os.path.exists(f"{folder}/out"):
-            counts["messages that ecCodes does not pack"] += 1
-            return
-        with open(f"{folder}/out", "rb") as file:
-            coded = file.read()
-    checked = run([program, "check", "profile=open"], coded)
-    if checked.returncode != 0:
-        reason = checked.stderr.decode().split()[5:6]
-        known = reason == ["ScaledRange"] and decimal_scales(coded) != {0}
-        hold(known, counts, name, f"messages packed by ecCodes and refused: {''.join(reason)}")
-        return
-    compare_read(program, counts, name, coded)
-    ours = run([program, "repack", "to=42", "profile=open"], coded)
-    hold(ours.returncode == 0 and len(ours.stdout) <= len(coded), counts, name, "messages with no more octets than ecCodes wrote")
-    counts["octets by ecCodes"] += len(coded)
-    counts["octets by ours of the same"] += len(ours.stdout)
-
-
-def compare_read(program, counts, name, coded):
-    """The values of messages that ecCodes packed, by both. A missing point has no number here, and some value there."""
-    text = run([program, "dump", "profile=open"], coded).stdout.decode()
-    theirs = values_by_eccodes(coded)
-    if theirs is None:
-        findings.append(f"{name}: accepted, and ecCodes does not read what it wrote")
-        counts["accepted, and ecCodes does not read what it wrote: NOT SO"] += 1
-        return
-    ours = our_fields(text)
-    hold(sum(len(field[3]) for field in ours) == len(theirs), counts, name, "messages with as many points")
-    at = 0
-    for reference, binary, decimal, numbers in ours:
-        own, at = theirs[at : at + len(numbers)], at + len(numbers)
-        scaled = [None if x is None else round((float(value) * 10.0**decimal - reference) / 2.0**binary) for x, value in zip(numbers, own)]
-        hold(scaled == numbers, counts, name, "fields packed by ecCodes that are read alike")
+def listed(counts):
+    return ", ".join(f"{number:,} {what}" for what, number in counts.items() if number)
 
 
 def main():
+    global program
     if len(sys.argv) < 2:
         sys.exit(__doc__)
     program = os.path.abspath(sys.argv[1])
-    files = sys.argv[2:] or sorted(glob.glob(f"{FILES}/*"))
+    eccodes.codes_grib_multi_support_on()
+    sums = collections.Counter()
     with tempfile.TemporaryDirectory() as folder:
-        libaec = Libaec(folder)
-        for path in files:
-            counts = collections.Counter()
+        tool = f"{folder}/ccsds"
+        words = ["gcc", "-O2", "-Wall", "-Wextra", "-std=gnu11", "-o", tool, f"{top}/bench/ccsds.c", "-laec"]
+        if subprocess.run(words, check=False).returncode != 0:
+            sys.exit("bench/ccsds.c was not built (Debian: gcc, libaec-dev)")
+        for path in sys.argv[2:] or sorted(glob.glob(f"{FILES}/*")):
             with open(path, "rb") as file:
-                found = list(messages(file.read()))
-            for number, message in enumerate(found, 1):
-                name = f"{os.path.basename(path)}, message {number}"
-                simple = run([program, "repack", "to=0", "profile=open"], message)
-                if simple.returncode != 0:
-                    counts["left out: " + " ".join(simple.stderr.decode().split()[:1] + simple.stderr.decode().split()[3:5])] += 1
-                    continue
-                counts["messages"] += 1
-                compare_ours(program, libaec, counts, name, message, simple.stdout)
-                compare_theirs(program, counts, name, simple.stdout)
-            if found:
-                print(f"{path}: " + ", ".join(f"{number} {what}" for what, number in counts.items() if number), flush=True)
+                parts = list(messages(file.read()))
+            if not parts:
+                continue
+            files = Inputs(folder, os.path.basename(path))
+            files.write("all", parts)
+            compare_ours(files, tool, parts)
+            compare_theirs(files, parts)
+            sums += files.counts
+            print(f"{path}: {listed(files.counts)}", flush=True)
+    print(f"in all: {listed(sums)}")
     for finding in findings:
         print(finding)
     print(f"{len(findings)} findings")

@@ -4,8 +4,8 @@
     bench/pictures.py PROGRAM [sizes|field]    both if none is given
 
 docs/pictures/sizes.svg: the octets of five files as they are and in each packing, which bench/sizes.sh counts.
-docs/pictures/field.png: the height of 500 hPa in gfs.grb, with what is land in the same file, as `filter`, `keys` and
-`dump decimals=` give them. It needs matplotlib (Debian: python3-matplotlib)."""
+docs/pictures/field.png: the height of 500 hPa in gfs.grb, with what is land in the same file, as examples/plot.py draws
+them. It needs matplotlib (Debian: python3-matplotlib; run it by the Python that has it, as /usr/bin/python3)."""
 import io
 import os
 import re
@@ -19,6 +19,9 @@ from matplotlib import pyplot
 from PIL import Image
 
 top = os.path.dirname(os.path.dirname(os.path.abspath(__file__)))
+sys.path[:0] = [f"{top}/share/python", f"{top}/examples"]
+import plot
+
 EXAMPLES = "/usr/share/doc/python-grib-doc/examples"
 FOLDER = f"{top}/docs/pictures"
 # Each packing with its colour: the file as it is grey, the smallest packing the darkest.
@@ -52,38 +55,11 @@ def draw_sizes(program):
     figure.savefig(f"{FOLDER}/sizes.svg", metadata={"Date": None})
 
 
-def field(program, *conditions):
-    """The values of the one field that fulfils these conditions, row by row, and its keys."""
-    with open(f"{EXAMPLES}/gfs.grb", "rb") as file:
-        message = subprocess.run([program, "filter", *conditions], stdin=file, stdout=subprocess.PIPE, stderr=subprocess.DEVNULL, check=True).stdout
-    words = subprocess.run([program, "keys"], input=message, stdout=subprocess.PIPE, check=True).stdout.decode().split()
-    keys = dict(word.split("=") for word in words[1:])
-    lines = subprocess.run([program, "dump", "decimals=1"], input=message, stdout=subprocess.PIPE, check=True).stdout.decode().splitlines()
-    values = [float(line.split()[1]) for line in lines[2:]]
-    ni, nj = int(keys["ni"]), int(keys["nj"])
-    return [values[row * ni : (row + 1) * ni] for row in range(nj)], keys
-
-
 def draw_field(program):
-    heights, keys = field(program, "discipline=0", "category=3", "number=5", "surface1=100", "surface1Value=50000")
-    land, _ = field(program, "discipline=2", "category=0", "number=0")
-    # The first column again after the last, at 360 degrees east.
-    heights, land = ([row + row[:1] for row in rows] for rows in (heights, land))
-    ni, nj = int(keys["ni"]), int(keys["nj"])
-    east = [360 * column / ni for column in range(ni + 1)]
-    north = [90 - 180 * row / (nj - 1) for row in range(nj)]
-    figure, axes = pyplot.subplots(figsize=(7.5, 4), layout="constrained")
-    drawn = axes.contourf(east, north, heights, levels=range(4600, 6001, 100), cmap="viridis", extend="both")
-    axes.contour(east, north, land, levels=[0.5], colors="black", linewidths=0.7)
-    axes.set_xticks(range(0, 361, 60))
-    axes.set_yticks(range(-90, 91, 30))
-    axes.set_xlabel("degrees east")
-    axes.set_ylabel("degrees north")
-    begun = "{year}-{month:0>2}-{day:0>2} {hour:0>2} UTC".format(**keys)
-    axes.set_title(f"Height of 500 hPa, {begun} + {keys['forecastTime']} hours", fontsize=10)
-    figure.colorbar(drawn, label="metres")
+    """By the example, which reads the file with share/python/tachilwe.py."""
+    os.environ["GRIB"] = program
     picture = io.BytesIO()
-    figure.savefig(picture, format="png", dpi=100)
+    plot.draw(f"{EXAMPLES}/gfs.grb").savefig(picture, format="png", dpi=100)
     # Few colours, and so few octets.
     Image.open(picture).convert("RGB").quantize(64).save(f"{FOLDER}/field.png", optimize=True)
 

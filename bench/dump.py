@@ -1,5 +1,5 @@
 #!/usr/bin/env python3
-"""Compares `grib dump` with ecCodes on files, value by value: eccodes.py PROGRAM FILE..
+"""Compares `grib dump` with ecCodes on files, value by value: dump.py PROGRAM FILE..
 
 Needs grib_get_data of ecCodes (Debian: libeccodes-tools). Each message is handed to both by
 itself. Of each value that ecCodes gives, the scaled integer is computed back by the reference value and the
