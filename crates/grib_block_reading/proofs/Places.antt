@@ -1,12 +1,12 @@
 -- Places of bits, and what is found there.
-use Rattle.std.proofs.Common.{◌≡◌, inl, inr, ℕ, zero, suc, ◌+◌, ◌-◌, ◌*◌, ◌/◌, ◌%◌, ◌^◌, ◌<◌, ◌≤◌, Bool, true, false, cond, List, [], ◌∷◌, ◌++◌, length, take, drop, replicate, refl, sym, ap, ap₂, subst, ◌∙◌, arith, mod-eq_of_lt, nat_le, zero-add, pow_mono}
+use Rattle.std.proofs.Common.{◌≡◌, inl, inr, ℕ, zero, suc, ◌+◌, ◌-◌, ◌*◌, ◌/◌, ◌%◌, ◌^◌, ◌<◌, ◌≤◌, Bool, true, false, cond, bit_and, List, [], ◌∷◌, ◌++◌, length, take, drop, replicate, refl, sym, ap, ap₂, subst, ◌∙◌, arith, mod-eq_of_lt, nat_le, zero-add, pow_mono}
 use Rattle.std.proofs.lemmas.Bool.{le-leb, cases_lt}
 use Rattle.std.proofs.lemmas.Bool.Decides.{nat_tests}
-use Rattle.std.proofs.lemmas.List.{length-drop, length-take-le, take-append-drop, drop-drop, drop-append-le, take-take, drop_all}
+use Rattle.std.proofs.lemmas.List.{length-drop, length-take-le, take-append-drop, drop-drop, drop-append-le, take-take, drop-take, drop_all}
 use Rattle.std.proofs.lemmas.Nat.{leading_top, shr_below}
 use Rattle.std.specs.Int.Count.{count_leading_zeros}
 use Rattle.grib_bits.specs.Bits.{bits, bits_of, num}
-use Rattle.grib_bits.proofs.Numbers.{bits_of-num, bits_of-zero, num-take, num-drop, num-lt}
+use Rattle.grib_bits.proofs.Numbers.{bits_of-num, bits_of-zero, num-take, num-drop, num-lt, and_ones}
 use Rattle.grib_coding.specs.Reading.{Front, Ended, Found, and_then, front_number, front_sequence}
 
 -- ---- numbers
@@ -133,6 +133,20 @@ one_found xs width word lead within small is some is_lead =
       omega (arith, sum),
       one_behind zeros xs (more ++ drop width xs) (omega (arith, sum, within)) are_here one ∙ ap (Found zeros) (sym after),
     )
+
+-- what is left of a word behind its first bits
+pub word_behind : (xs : List Bool) (width skip word left : ℕ) → width ≤ length xs → width ≤ 64 → word ≡ num (take width xs) → 0 < skip → skip + left ≡ width
+    → bit_and word (1 * 2 ^ left % 2 ^ 64 - 1) ≡ num (take left (drop skip xs))
+word_behind xs width skip word left within small is some sum =
+    let front = take width xs in
+    let long : length front ≡ width = length-take-le width xs within in
+    let rest : length front - skip ≡ left = omega (arith, long, sum) in
+    let cut : drop skip front ≡ take left (drop skip xs) = ap (λ n. drop skip (take n xs)) (sym sum) ∙ drop-take skip left xs in
+    and_ones word left (omega (arith, sum, some, small))
+    ∙ (ap (λ n. n % 2 ^ left) is
+    ∙ (ap (λ n. num front % 2 ^ n) (sym rest)
+    ∙ (sym (num-drop skip front (omega (arith, long, sum)))
+    ∙ ap num cut)))
 
 -- what is found behind zeros up to a place
 pub found_behind : (xs : List Bool) (at place zeros : ℕ) → at ≤ place → front_sequence (drop at xs) ≡ behind_zeros (place - at) (front_sequence (drop place xs))

@@ -3,10 +3,17 @@
 ghost use Rattle.std.specs.Prelude.{◌≡◌, ℕ, ◌+◌, ◌*◌, ◌%◌, ◌^◌, ◌<◌, ◌≤◌, length, drop, MatchOption, IfSome};
 ghost use Rattle.grib_bits.specs.Bits.{bits as bits_in};
 ghost use Rattle.grib_coding.specs.Reading.{front_number, front_sequence, Found, Ended};
-ghost use Rattle.grib_block_reading.specs.Fronts.{front_of};
+ghost use Rattle.grib_block_reading.specs.Fronts.{front_of, IsAhead};
 
 use grib_bits::get_bits;
 use std::marker::Model;
+
+/// The number of the next bits that are left, so many of them. Its ones are found with no look at the octets.
+#[derive(Clone, Copy, Debug)]
+pub(crate) struct Ahead {
+    pub(crate) word: u64,
+    pub(crate) count: u32,
+}
 
 /// The bits of some octets from a place on. A clause sees them.
 #[derive(Debug, Drop)]
@@ -78,6 +85,38 @@ impl<'a> BitsLeft<'a> {
         let zeros = zeros_from(self.octets, self.at)?;
         self.at += zeros + 1;
         Some(zeros)
+    }
+
+    /// The next bits, as many as a word surely holds.
+    #[inline]
+    fn ahead(&self) -> Ahead
+        ensures { IsAhead result self.now }
+    {
+        let count = self.len().min(56) as u32;
+        Ahead {
+            word: get_bits(self.octets, self.at, count),
+            count,
+        }
+    }
+
+    /// How many zero bits stand before the next one bit; both are skipped, also of the bits `ahead`.
+    #[inline(always)]
+    pub(crate) fn next_sequence(&mut self, ahead: &mut Ahead) -> Option<u64>
+        requires { IsAhead ahead.old self.old }
+        ensures found { front_sequence self.old ≡ front_of result self.new }
+        ensures short { IfSome result (λ number. number < 2 ^ 35) }
+        ensures ahead { IfSome result (λ _. IsAhead ahead.new self.new) }
+    {
+        if ahead.word == 0 {
+            let zeros = self.sequence()?;
+            *ahead = self.ahead();
+            return Some(zeros);
+        }
+        let zeros = ahead.word.leading_zeros() + ahead.count - 64;
+        ahead.count -= zeros + 1;
+        ahead.word &= (1 << ahead.count) - 1;
+        self.at += u64::from(zeros) + 1;
+        Some(u64::from(zeros))
     }
 
     /// Drops the next bits up to a whole number of octets.

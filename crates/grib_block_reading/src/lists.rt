@@ -4,7 +4,7 @@ ghost use Rattle.std.specs.Prelude.{◌≡◌, ℕ, ◌^◌, ◌<◌, ◌≤◌,
 ghost use Rattle.grib_coding.specs.Reading.{front_list, front_number, front_sequence, Found, Ended};
 ghost use Rattle.grib_block_reading.specs.Fronts.{LowFound};
 
-use crate::bits_left::BitsLeft;
+use crate::bits_left::{Ahead, BitsLeft};
 
 /// Reads sequences, as many as there is room for.
 pub(crate) fn read_sequences(bits: &mut BitsLeft<'_>, numbers: &mut [u64]) -> Option<()>
@@ -12,8 +12,9 @@ pub(crate) fn read_sequences(bits: &mut BitsLeft<'_>, numbers: &mut [u64]) -> Op
         (λ _. front_list front_sequence (length numbers.old) bits.old ≡ Found numbers.new bits.new) }
     ensures short { MatchOption result (Unit {0}) (λ _. All (λ number. number < 2 ^ 35) numbers.new) }
 {
+    let mut ahead = Ahead { word: 0, count: 0 };
     for number in numbers.iter_mut() {
-        *number = bits.sequence()?;
+        *number = bits.next_sequence(&mut ahead)?;
     }
     Some(())
 }

@@ -16,4 +16,5 @@ loop-number-preserved c =
     record {
       so_far = next _ _ _ _ _ _ _ _ c.loop-number.invariant.so_far (omega arith) (omega arith) c.in_ok-number.ensures.found;
       short = subst (All P) (sym taken) (All-push P (take place numbers) number c.loop-number.invariant.short c.in_ok-number.ensures.short);
+      ahead = c.in_ok-number.ensures.ahead;
     }
