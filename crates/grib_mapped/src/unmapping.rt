@@ -37,11 +37,8 @@ fn by_parity(before: u32, code: u32) -> u32
     ensures even { code ≡ 2 * (code / 2) → result ≡ before + code / 2 }
     ensures odd { code ≡ 2 * (code / 2) + 1 → result + half code ≡ before }
 {
-    if code % 2 == 0 {
-        before + code / 2
-    } else {
-        before - half_of(code)
-    }
+    // No branch: which codes are odd cannot be foreseen.
+    before + code / 2 - code % 2 * code
 }
 
 /// Puts in the place of codes, of which the first is of a number after `before`, the numbers from 0 to `most`
