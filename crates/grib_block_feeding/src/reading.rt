@@ -216,10 +216,7 @@ impl Reading {
     fn is_at_item(&self) -> bool
         ensures { result ≡ true → self.now.stage ≡ Stage.Items }
     {
-        match self.stage {
-            Stage::Items => true,
-            Stage::Over(_) => false,
-        }
+        matches!(self.stage, Stage::Items)
     }
 
     /// What comes next.
