@@ -1,5 +1,5 @@
 -- Items one after another.
-use Rattle.std.proofs.Common.{◌≡◌, ℕ, zero, suc, ◌+◌, ◌-◌, ◌*◌, ◌/◌, ◌%◌, ◌<◌, ◌≤◌, Bool, false, List, [], ◌++◌, length, take, refl, sym, ap, ap₂, subst, ◌∙◌, arith, append_assoc, nat_le, Some, None}
+use Rattle.std.proofs.Common.{◌≡◌, ℕ, zero, suc, ◌+◌, ◌-◌, ◌*◌, ◌/◌, ◌%◌, ◌<◌, ◌≤◌, Bool, false, List, [], ◌++◌, length, take, refl, sym, ap, ap₂, subst, ◌∙◌, arith, append_assoc, nat_le, Some, None, Result, Ok, Err, MatchResult}
 use Rattle.std.proofs.Math.Nat.{div-mul-le_self, mul-le-mul_right}
 use Rattle.std.proofs.Math.Seq.{take-add, take-append_seam, drop-append_seam}
 use Rattle.std.proofs.lemmas.Bool.{le-leb}
@@ -40,6 +40,13 @@ going {S} kept none c count start keeper =
 
 pub not_le : (a b : ℕ) → b < a → nat_le a b ≡ false
 not_le a b less = grind (arith, nat_tests)
+
+-- what holds by the way that something ended
+pub ok_of : {A B : Type 0} (P : A → Type 0) (Q : B → Type 0) (result : Result A B) (x : A) → result ≡ Ok x → MatchResult result P Q → P x
+ok_of {A} {B} P Q result x is holds = subst (λ (r : Result A B). MatchResult r P Q) is holds
+
+pub err_of : {A B : Type 0} (P : A → Type 0) (Q : B → Type 0) (result : Result A B) (x : B) → result ≡ Err x → MatchResult result P Q → Q x
+err_of {A} {B} P Q result x is holds = subst (λ (r : Result A B). MatchResult r P Q) is holds
 
 -- an item more
 pub one_more : (c : Coding) (count block most : ℕ) (bits : List Bool) → block < block_count c count

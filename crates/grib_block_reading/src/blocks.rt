@@ -62,9 +62,9 @@ fn take_all<K: Keeper + Drop>(
         if block >= blocks {
             return Ok(kept.keeper);
         }
-        let taken = take_item(&mut bits, coding, count, block, codes, kept)?;
-        block += taken.blocks;
-        kept = taken.kept;
+        let read = take_item(&mut bits, coding, count, block, codes, kept);
+        block += read.blocks?;
+        kept = read.kept;
     }
     Ok(kept.keeper)
 }

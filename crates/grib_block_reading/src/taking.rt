@@ -16,13 +16,6 @@ use crate::numbers::{Kept, keep_block, keep_zero_blocks};
 use grib_coding::{BlockFault, Coding};
 use grib_packing::Keeper;
 
-/// What an item leaves: how many blocks it covers, and what its numbers went to.
-#[derive(Drop)]
-pub(crate) struct Taken<K> {
-    pub(crate) blocks: u32,
-    pub(crate) kept: Kept<K>,
-}
-
 /// How many blocks an item that was read covers, or what is wrong with it, and what its numbers went to: none where
 /// it is at fault.
 #[derive(Debug, Drop)]
@@ -34,37 +27,30 @@ pub struct ReadItem<K> {
 }
 
 /// Takes the item whose first block is `block`, of `count` values.
-pub(crate) fn take_item<K: Keeper + Drop>(
+pub(crate) fn take_item<K: Keeper>(
     bits: &mut BitsLeft<'_>,
     coding: Coding,
     count: u32,
     block: u32,
     codes: &mut [u64],
     kept: Kept<K>,
-) -> Result<Taken<K>, BlockFault>
+) -> ReadItem<K>
     requires fits { Fits coding }
     requires few { count ≤ 33554432 }
     requires some { block * coding.block < count }
     requires room { length codes.old ≡ coding.block }
     requires last { kept.last ≤ greatest coding }
-    ensures { let front = front_at coding block bits.old in MatchResult result
-        (λ taken. ItemTaken K.kept coding count block front bits.new kept.last kept.keeper taken.blocks taken.kept.last taken.kept.keeper)
+    ensures { let front = front_at coding block bits.old in MatchResult result.blocks
+        (λ blocks. ItemTaken K.kept coding count block front bits.new kept.last kept.keeper blocks result.kept.last result.kept.keeper)
         (λ fault. outcome coding count block front ≡ Some fault) }
 {
     skip_padding(bits, coding, block);
     let with_reference = is_referred(coding, block);
     let codes = &mut codes[usize::from(with_reference)..];
     let Some(head) = read_item(bits, coding, with_reference, codes) else {
-        return Err(BlockFault::Short);
+        return faulty(BlockFault::Short, kept);
     };
-    let read = take_read(head, coding, count, block, codes, kept);
-    match read.blocks {
-        Ok(blocks) => Ok(Taken {
-            blocks,
-            kept: read.kept,
-        }),
-        Err(fault) => Err(fault),
-    }
+    take_read(head, coding, count, block, codes, kept)
 }
 
 /// Passes what may stand before the first item of an interval.
