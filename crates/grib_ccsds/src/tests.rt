@@ -1,39 +1,29 @@
 //! A worked message, whose Section 7 libaec reads and writes too.
 
-ghost use Rattle.std.specs.Prelude.{◌≡◌, ◌≤◌, false, length, IfOk};
+ghost use Rattle.std.specs.Prelude.{◌≡◌, ◌≤◌, false, length};
 ghost use Rattle.std.specs.List.{list_any};
 ghost use Rattle.grib_packing.specs.Entries.{is_out_of_range};
-ghost use Rattle.grib_packing.specs.Written.{MayBePacked};
 
 use crate::{CodedPacking, fault_of_blocks, pack_coded_below};
 use grib_base::{List, Reason};
 use grib_coding::BlockFault;
 use grib_packing::{Column, PackFault, Packed, Packing, Point};
-use std::alloc::{AllocError, Global};
+use std::alloc::Global;
 use std::test::Fail;
 
-/// A column of these points, with R = -118.625, E = -3 and D = 1.
-fn column_of(alloc: Global, points: &[Point]) -> Result<Column, AllocError>
-    requires some { 1 ≤ length points.now }
-    requires few { length points.now ≤ 33554432 }
-    requires within { list_any is_out_of_range points.now ≡ false }
-    ensures { IfOk result MayBePacked }
-{
-    Ok(Column {
-        reference: 0xc2ed4000,
-        e: 0x8003,
-        d: 1,
-        points: List::of(points.to_vec(alloc)?),
-    })
-}
-
-/// These points in blocks of 8 values, with 128 blocks from one reference to the next.
+/// These points, with R = -118.625, E = -3 and D = 1, in blocks of 8 values with 128 blocks from one reference to the
+/// next.
 fn packed(alloc: Global, points: &[Point]) -> Result<Packed, PackFault>
     requires some { 1 ≤ length points.now }
     requires few { length points.now ≤ 33554432 }
     requires within { list_any is_out_of_range points.now ≡ false }
 {
-    let column = column_of(alloc, points)?;
+    let column = Column {
+        reference: 0xc2ed4000,
+        e: 0x8003,
+        d: 1,
+        points: List::of(points.to_vec(alloc)?),
+    };
     CodedPacking::new(8, 128).pack(alloc, &column, 0)
 }
 
@@ -43,7 +33,12 @@ fn is_packed_below(alloc: Global, points: &[Point], below: u64) -> Result<bool, 
     requires few { length points.now ≤ 33554432 }
     requires within { list_any is_out_of_range points.now ≡ false }
 {
-    let column = column_of(alloc, points)?;
+    let column = Column {
+        reference: 0xc2ed4000,
+        e: 0x8003,
+        d: 1,
+        points: List::of(points.to_vec(alloc)?),
+    };
     let found = pack_coded_below(alloc, &column, 0, 8, 128, Some(below))?;
     Ok(found.is_some())
 }

@@ -9,11 +9,12 @@ ghost use Rattle.grib_packing.specs.Unpacked.{IsUnpacked, MayBeUnpacked};
 ghost use Rattle.grib_ccsds.specs.Representation.{Spelled};
 
 use crate::representation::{Coded, coded_of};
+use byteorder::{BigEndian, ByteOrder};
 use grib_base::{Fault, ReadFault, Reason, Section};
 use grib_bitmap::Mask;
 use grib_block_reading::take_blocks;
 use grib_coding::BlockFault;
-use grib_packing::{Column, Keeper, Point, Points, length_of_section, numbers_of};
+use grib_packing::{Column, Keeper, Point, Points, numbers_of};
 use std::alloc::Global;
 
 /// The refusal of a Section 7 of `length` octets, which begins at octet `start` of the message, for what is wrong with
@@ -98,6 +99,13 @@ pub fn take_coded<K: Keeper + Drop>(
 fn is_octet(octet: u8)
     ensures { octet < 256 }
 {}
+
+/// The length that a section states, which is its own.
+fn length_of_section(section: &Section<'_>) -> u32
+    ensures { result ≡ length section.now.octets.now }
+{
+    BigEndian::read_u32(section.octets)
+}
 
 /// Hands on the points of this many numbers that are 0.
 pub fn keep_zeros<K: Keeper>(keeper: K, count: u32) -> K

@@ -34,4 +34,5 @@ pub use point_words::PointWords;
 pub use representation::{Complex, complex_of, read_complex};
 pub use stages::ComplexReading;
 pub use told_codes::ToldCodes;
+pub use unpacking::length_of_section;
 pub use values::PlainValues;

@@ -12,9 +12,10 @@ ghost use Rattle.grib_complex.specs.Representation.{Spelled};
 
 use crate::representation::{Complex, accepted_complex};
 use crate::stages::ComplexReading;
+use byteorder::{BigEndian, ByteOrder};
 use grib_base::{ReadFault, Section};
 use grib_bitmap::Mask;
-use grib_packing::{Column, Keeper, Points, length_of_section};
+use grib_packing::{Column, Keeper, Points};
 use std::alloc::Global;
 
 /// The column of a field in complex packing, from its Section 5, which is accepted, its mask and its Section 7.
@@ -68,4 +69,11 @@ fn take_values<K: Keeper + Drop>(
     let reading = ComplexReading::start(alloc, complex, keeper, start, length)?;
     let reading = reading.push(alloc, &octets[5..], 0, start, length);
     Ok(reading.end(start)?)
+}
+
+/// The length that a section states, which is its own.
+pub fn length_of_section(section: &Section<'_>) -> u32
+    ensures { result ≡ length_of section.now.octets.now }
+{
+    BigEndian::read_u32(section.octets)
 }

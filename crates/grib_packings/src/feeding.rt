@@ -13,7 +13,8 @@ use crate::reading::Reading;
 use crate::representation::Representation;
 use grib_base::{Fault, Section};
 use grib_bitmap::Mask;
-use grib_packing::{Column, Keeper, Points, Simple, length_of_section};
+use grib_complex::length_of_section;
+use grib_packing::{Column, Keeper, Points, Simple};
 use std::alloc::{AllocError, Global};
 
 /// Reads the values of a field as the octets of its Section 7 come, in any pieces (WMO-No. 306, Volume I.2,
