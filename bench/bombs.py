@@ -6,7 +6,8 @@ end of each segment, in the fewest octets that they can have (blocks of 64 value
 of 32 bits a number, and of 1 bit with short identifiers), and as one run for each interval; in simple packing of 0 bits;
 in complex packing as one group of width 0; and, for comparison, in simple packing of 8 bits, in as many octets as there are
 points. Others have one point more, a run that goes past its interval, and coded bits that end before the last block. Each
-command runs on each, with `profile=open` and its output to /dev/null. At last a message has FIELDS such fields (16).
+command runs on each, with `profile=open` and its output to /dev/null. At last a message has FIELDS such fields (256), for
+the commands that take no memory for points.
 
 Prints for each run the status, the note, the processor time, the user's and the system's, and the most memory."""
 import os
@@ -16,6 +17,7 @@ import sys
 import tempfile
 
 NI, NJ = 8192, 4096
+FEW = [["check"], ["list"], ["stats"]]  # commands that take no memory for points
 COMMANDS = [["check"], ["list"], ["stats"], ["dump"], ["values"], ["repack", "to=0"], ["repack", "to=42"], ["repack", "to=least"]]
 
 
@@ -77,7 +79,7 @@ def inputs(fields):
     yield "5.42, one point more than the limit", message(points + 1, [coded(points + 1, 8, 14, 3, 4096, 4)], points + 1, 1)
     yield "5.42, a run past its interval", message(points, [coded(points, 8, 14, 3, 4096, 4097)])
     yield "5.42, a block is not there", message(points, [coded(points - 64 * 64, 8, 14, 3, 4096, 4).replace(number(points - 64 * 64, 4), number(points, 4), 1)])
-    yield f"5.42, {fields} fields of 8 bits", message(points, [of_8] * fields)
+    yield f"5.42, {fields} fields of the first kind", message(points, [of_8] * fields)
 
 
 def run(program, words, path, said):
@@ -97,11 +99,11 @@ def main():
     if not shutil.which("time"):
         sys.exit("time is not here (Debian: time)")
     with tempfile.TemporaryDirectory() as folder:
-        for what, octets in inputs(int(sys.argv[2]) if len(sys.argv) > 2 else 16):
+        for what, octets in inputs(int(sys.argv[2]) if len(sys.argv) > 2 else 256):
             with open(f"{folder}/in", "wb") as file:
                 file.write(octets)
             print(f"{what}: {len(octets):,} octets", flush=True)
-            for words in COMMANDS:
+            for words in FEW if "fields of the first" in what else COMMANDS:
                 status, note, seconds, most = run(program, words, f"{folder}/in", f"{folder}/said")
                 print(f"  {' '.join(words):16} status {status}, {seconds:.2f} s, {most:.1f} MB  {note}", flush=True)
 

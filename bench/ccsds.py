@@ -10,11 +10,13 @@ python-grib-doc. The messages of edition 2 of a file are handed over together, s
   them; `repack to=0` of what was packed has to give the octets that `repack to=0` gives of the messages, so that each
   scaled integer and each missing point is the same. The four block sizes of `repack to=least profile=open` are tried by
   that too: no message may become longer, nor be longer than in blocks of 32.
-- theirs: `grib_set -r -s packingType=grid_ccsds`. Of what is accepted ecCodes has to read the values that
-  `values profile=open` writes: the same scaled integer at each point, and the same points missing (how many are the same
-  number of 64 bits is counted), and `repack to=42` of it may have no more octets. What is refused by ScaledRange is
-  counted: ecCodes 2.28 writes such messages, as far as was seen, where the decimal scale factor is not 0; refused for
-  another reason, or with a decimal scale factor of 0, is a finding.
+- theirs: `grib_set -r -s packingType=grid_ccsds` of the messages in simple packing, or as they are if their packing is not
+  read here (JPEG 2000). Of what is accepted ecCodes has to read the values that `values profile=open` writes: the same
+  scaled integer at each point, and the same points missing (how many are the same number of 64 bits is counted), and
+  `repack to=42` of it may have no more octets. What is refused by ScaledRange is counted, and what
+  is accepted though ecCodes reads other values than it packed: ecCodes 2.28 writes such messages, as far as was seen,
+  where neither the decimal nor the binary scale factor is 0. Refused for another reason, or with one of them 0, is a
+  finding.
 
 Prints for each file what agrees and what does not, how many octets Sections 7 have and how many libaec codes, at the end
 the sums, and each finding; the status is 1 if there is one."""
@@ -28,7 +30,7 @@ import subprocess
 import sys
 import tempfile
 
-import eccodes
+import gribapi
 import numpy
 
 from keys import fields
@@ -37,6 +39,7 @@ from messages import messages
 top = os.path.dirname(os.path.dirname(os.path.abspath(__file__)))
 FILES = "/usr/share/doc/python-grib-doc/examples"
 MISSING = 1.5e300  # what ecCodes is told to put at missing points
+UNSTATED = [("refused", reason) for reason in ("Ccsds", "GridTemplate", "ProductTemplate")]
 program, findings = "", []
 
 
@@ -59,7 +62,7 @@ class Inputs:
         with open(f"{self.folder}/{source}", "rb") as file, open(f"{self.folder}/{target}", "wb") as to:
             done = subprocess.run([program, *words], stdin=file, stdout=to, stderr=subprocess.PIPE, check=False)
         notes = [line.split() for line in done.stderr.decode().splitlines()]
-        said = {int(words[4]): (words[0], *words[7:8] if words[0] == "refused" else words[5:7]) for words in notes if words[3:4] == ["at"]}
+        said = {int(words[4]): (words[0], *(words[5:7] if words[0] == "kept" else words[7:8])) for words in notes if words[3:4] == ["at"]}
         return done.returncode, said
 
     def hold(self, what, results):
@@ -102,28 +105,30 @@ def by_eccodes(path):
     with open(path, "rb") as file:
         while True:
             try:
-                handle = eccodes.codes_grib_new_from_file(file)
-            except eccodes.CodesInternalError:
+                handle = gribapi.grib_new_from_file(file)
+            except gribapi.GribInternalError:
                 yield None
                 continue
             if handle is None:
                 return
             try:
-                eccodes.codes_set(handle, "missingValue", MISSING)
-                values = eccodes.codes_get_values(handle)
+                gribapi.grib_set(handle, "missingValue", MISSING)
+                values = gribapi.grib_get_values(handle)
                 values[values == MISSING] = math.nan
                 yield values
-            except eccodes.CodesInternalError:
+            except gribapi.GribInternalError:
                 yield None
             finally:
-                eccodes.codes_release(handle)
+                gribapi.grib_release(handle)
 
 
 def by_ours(path):
     """The arrays that `values` writes, as they come."""
     with open(path, "rb") as file, subprocess.Popen([program, "values", "profile=open"], stdin=file, stdout=subprocess.PIPE) as run:
         while run.stdout.peek(1):
-            yield numpy.lib.format.read_array(run.stdout).ravel()
+            numpy.lib.format.read_magic(run.stdout)
+            shape, _, form = numpy.lib.format.read_array_header_1_0(run.stdout)
+            yield numpy.frombuffer(run.stdout.read(math.prod(shape) * form.itemsize), form)
 
 
 def same(one, other):
@@ -152,12 +157,18 @@ def compare_libaec(files, tool, simple, coded):
 
 
 def compare_ours(files, tool, parts):
-    """What ours packs of these messages."""
-    _, said = files.ran("all", "simple", "repack", "to=0", "profile=open", "refused=pass", "kept=pass")
+    """What ours packs of these messages; the messages in simple packing, as far as their packing is read."""
+    _, said = files.ran("all", "simple", "repack", "to=0", "profile=open", "refused=copy", "kept=copy")
     files.counts.update(f"left out: {' '.join(cause)}" for cause in said.values())
-    parts, simple = kept_of(parts, said), list(messages(files.read("simple")))
-    if not parts:
-        return
+    every = list(messages(files.read("simple")))
+    parts, simple = kept_of(parts, said), [one for at, one in zip(places(parts), every, strict=True) if at not in said]
+    if parts:
+        compare_packed(files, tool, parts, simple)
+    return every
+
+
+def compare_packed(files, tool, parts, simple):
+    """What ours packs of messages that are here in simple packing too."""
     files.write("in", parts)
     _, said = files.ran("in", "coded", "repack", "to=42", "profile=open", "kept=pass")
     files.counts.update(f"not packed: {' '.join(cause)}" for cause in said.values())
@@ -172,7 +183,7 @@ def compare_ours(files, tool, parts):
     back = list(messages(files.read("back")))
     files.hold("messages that come back", [one == other for one, other in itertools.zip_longest(simple, back)])
     _, said = files.ran("coded", "refused", "check", "refused=pass")
-    files.hold("messages that are refused without profile=open", [said.get(at) == ("refused", "Ccsds") for at in places(coded)])
+    files.hold("messages that are refused without profile=open", [said.get(at) in UNSTATED for at in places(coded)])
     compare_read(files, parts)
     compare_libaec(files, tool, "simple", "coded")
 
@@ -203,33 +214,31 @@ def compare_read(files, parts):
 
 
 def set_by_eccodes(files, parts):
-    """What grib_set packs of them: together, or each by itself if it does not take all."""
+    """The messages that grib_set packs, together or each by itself if it does not take all, and what it packs."""
     words = ["grib_set", "-r", "-s", "packingType=grid_ccsds", f"{files.folder}/in", f"{files.folder}/set"]
 
     def done_with(some):
         files.write("in", some)
         files.write("set", [])
-        return subprocess.run(words, capture_output=True, check=False).returncode == 0 and files.read("set")
+        return files.read("set") if subprocess.run(words, capture_output=True, check=False).returncode == 0 else b""
 
     if octets := done_with(parts):
-        return octets
-    packed = [done_with([part]) for part in parts]
-    files.counts["messages that ecCodes does not pack"] += packed.count(False) + packed.count(b"")
-    return b"".join(octets for octets in packed if octets)
+        return parts, list(messages(octets))
+    packed = [(part, octets) for part in parts if (octets := done_with([part]))]
+    files.counts["messages that ecCodes does not pack"] += len(parts) - len(packed)
+    return [part for part, _ in packed], [one for _, octets in packed for one in messages(octets)]
 
 
 def compare_theirs(files, parts):
     """What ecCodes packs of these messages, which becomes a message for each field."""
-    coded = list(messages(set_by_eccodes(files, parts)))
+    parts, coded = set_by_eccodes(files, parts)
+    files.hold("files of which ecCodes packs each field", [sum(len(five_of(part)) for part in parts) == len(coded)])
     if not coded:
         return
     files.counts["messages packed by ecCodes"] += len(coded)
+    files.write("in", parts)
     files.write("theirs", coded)
     _, said = files.ran("theirs", "checked", "check", "profile=open", "refused=pass")
-    for at, part in zip(places(coded), coded):
-        if at in said:
-            known = said[at] == ("refused", "ScaledRange") and all(scale_of(five)[2] != 0 for five in five_of(part))
-            files.hold(f"messages packed by ecCodes and refused: {said[at][1]}, the decimal scale factor not 0", [known])
     count_wrong(files, parts, coded, said)
     coded = kept_of(coded, said)
     if not coded:
@@ -251,29 +260,27 @@ def compare_theirs(files, parts):
 
 
 def count_wrong(files, parts, coded, said):
-    """Which messages ecCodes itself cannot read again, or reads values of that are further off than a step: a finding only
-    where the decimal scale factor is 0."""
+    """Which messages are refused, and which ones ecCodes itself does not read again, or reads values of that are further off
+    than a step: findings, but where neither scale factor of the field was 0."""
     fives = [five for part in parts for five in five_of(part)]
-    if len(fives) != len(coded):
-        files.counts["messages packed by ecCodes that were not compared with what it packed"] += len(coded)
-        return
-    files.write("in", parts)
     pairs = zip(by_eccodes(f"{files.folder}/in"), by_eccodes(f"{files.folder}/theirs"), strict=True)
     for at, part, five, (before, after) in zip(places(coded), coded, fives, pairs, strict=True):
         own, = five_of(part)
         reference, binary, decimal = scale_of(own)
         step = (2.0**binary + abs(reference) * 2.0**-23) / 10.0**decimal
+        refused = f"refused by {said[at][1]}" if at in said else "accepted"
         if before is None or has_no_groups(five):
-            continue
-        accepted = "refused" if at in said else "accepted"
-        if after is None:
-            files.counts[f"{accepted}, and ecCodes does not read what it wrote"] += 1
+            what = "not compared with what ecCodes packed"
+        elif after is None:
+            what = "ecCodes does not read what it wrote"
         elif not numpy.array_equal(numpy.isnan(before), numpy.isnan(after)) or numpy.nanmax(abs(before - after), initial=0) > step:
-            files.counts[f"{accepted}, and ecCodes reads other values than it packed"] += 1
+            what = "ecCodes reads other values than it packed"
         else:
-            continue
-        if decimal == 0:
-            findings.append(f"{files.name}: ecCodes packed a message wrongly whose decimal scale factor is 0, at {at}")
+            what = "ecCodes reads what it packed"
+        files.counts[f"messages packed by ecCodes: {refused}, {what}"] += 1
+        known = said.get(at) in (None, ("refused", "ScaledRange")) and 0 not in scale_of(five)[1:]
+        if not known and (at in said or what.startswith("ecCodes reads other") or after is None):
+            findings.append(f"{files.name}: packed by ecCodes with {scale_of(five)}, at {at}: {refused}, {what}")
 
 
 def listed(counts):
@@ -285,7 +292,7 @@ def main():
     if len(sys.argv) < 2:
         sys.exit(__doc__)
     program = os.path.abspath(sys.argv[1])
-    eccodes.codes_grib_multi_support_on()
+    gribapi.grib_multi_support_on()
     sums = collections.Counter()
     with tempfile.TemporaryDirectory() as folder:
         tool = f"{folder}/ccsds"
@@ -299,8 +306,7 @@ def main():
                 continue
             files = Inputs(folder, os.path.basename(path))
             files.write("all", parts)
-            compare_ours(files, tool, parts)
-            compare_theirs(files, parts)
+            compare_theirs(files, compare_ours(files, tool, parts))
             sums += files.counts
             print(f"{path}: {listed(files.counts)}", flush=True)
     print(f"in all: {listed(sums)}")

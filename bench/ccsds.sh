@@ -7,8 +7,9 @@
 #
 #     bench/ccsds.sh PROGRAM [SIDE [FILE..]]     the messages have SIDE times SIDE points, 2048 where none is given
 #
-# The messages that are made have a decimal scale factor of 0: with another one ecCodes 2.28 writes CCSDS packing wrongly.
-# Of a FILE, which may have such fields, the time of `grib_set` to CCSDS packing counts whatever it wrote.
+# The messages that are made have a decimal scale factor of 0: with another one ecCodes 2.28 writes CCSDS packing wrongly
+# unless the binary scale factor is 0. Of a FILE, which may have such fields, the time of `grib_set` to CCSDS packing
+# counts whatever it wrote.
 #
 # shellcheck disable=SC2154,SC2317 # common.sh sets some names; it calls ours and theirs
 set -euo pipefail
