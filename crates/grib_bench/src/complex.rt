@@ -12,16 +12,13 @@ use crate::random::Random;
 use crate::sections::{column, section};
 use anyhow::{Context, Result, anyhow, bail, ensure};
 use byteorder::{BigEndian, ByteOrder};
-use grib_base::{ReadFault, Section};
+use grib_base::{MOST_POINTS, ReadFault, Section};
 use grib_bitmap::{Mask, ones};
 use grib_complex::read_complex;
 use grib_packing::{Column, Point, read_simple};
 use grib_packings::{Feeder, Representation};
 use std::alloc::Global;
 use std::env::Args;
-
-/// The points that a grid has at most.
-const MOST_POINTS: u32 = 33_554_432;
 
 /// One of this many points is looked at.
 const STEP: usize = 4096;
