@@ -116,7 +116,10 @@ def made():
     values = ran(["make", "seed=7", "ni=60", "nj=40", "to=0"], b"")[1]
     jobs = [(f"grid 3.{grid}", f"centre=7,gridDefinitionTemplateNumber={grid}" if grid > 32767 else f"gridDefinitionTemplateNumber={grid}", plain, False) for grid in GRIDS]
     jobs += [(f"product 4.{product}", f"productDefinitionTemplateNumber={product}", plain, False) for product in PRODUCTS]
-    jobs += [(f"packing {packing}", f"packingType={packing}", values, True) for packing in PACKINGS]
+    # ecCodes 2.28 packs to grid_ccsds wrongly where neither scale factor is 0.
+    five = next(fields(values))[5]
+    whole = values.replace(five, five[:17] + bytes(2) + five[19:])
+    jobs += [(f"packing {packing}", f"packingType={packing}", whole if packing == "grid_ccsds" else values, True) for packing in PACKINGS]
     jobs += [(f"packing {packing}", f"packingType={packing}", spectral, True) for packing in SPECTRAL]
     for name, pairs, octets, again in jobs:
         done = set_by(pairs, octets, again)
@@ -135,6 +138,7 @@ def by_octets(plain, values):
     levels = five[5:9] + (200).to_bytes(2, "big") + bytes([8, 0, 3, 0, 3, 0]) + bytes([0, 0, 0, 1, 0, 2])
     yield "packing 5.200", message([parts[1], parts[3], parts[4], section(5, levels), parts[6], section(7, bytes([1, 255, 2]))])
     yield "packing 5.65535", message([parts[1], parts[3], parts[4], section(5, five[5:9] + b"\xff\xff"), parts[6], section(7, b"")])
+    yield "packing 5.42", ran(["repack", "to=42", "profile=open"], values)[1]
     elsewhere = section(3, b"\x01" + parts[3][6:10] + b"\0\0\0\0")
     yield "a grid that is defined elsewhere", message([parts[1], elsewhere, *(parts[n] for n in (4, 5, 6, 7))])
     by_centre = section(3, b"\xff" + parts[3][6:10] + b"\0\0\xff\xff" + b"anything")

@@ -24,8 +24,9 @@ import plot
 
 EXAMPLES = "/usr/share/doc/python-grib-doc/examples"
 FOLDER = f"{top}/docs/pictures"
-# Each packing with its colour: the file as it is grey, the smallest packing the darkest.
-SHOWN = {"as it is": "#999999", "to=2": "#9ecae1", "to=3 order=1": "#6baed6", "to=3 order=2": "#3182bd", "to=least": "#08306b"}
+# Each packing with its colour: the file as it is grey, the smallest packing the darkest, with CCSDS packing in red.
+SHOWN = {"as it is": "#999999", "to=2": "#9ecae1", "to=3 order=1": "#6baed6", "to=3 order=2": "#3182bd", "to=least": "#08306b",
+         "to=42 profile=open": "#fc9272", "to=least profile=open": "#99000d"}
 
 
 def sizes_of(program):
@@ -40,7 +41,7 @@ def sizes_of(program):
 
 def draw_sizes(program):
     files = sizes_of(program)
-    figure, axes = pyplot.subplots(figsize=(7.5, 5), layout="constrained")
+    figure, axes = pyplot.subplots(figsize=(7.5, 6.5), layout="constrained")
     width = 0.8 / len(SHOWN)
     for number, (how, colour) in enumerate(SHOWN.items()):
         percents = [100 * octets[how] / octets["to=0"] for octets in files.values()]
