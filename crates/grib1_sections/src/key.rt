@@ -1,8 +1,7 @@
 //! The numbers of Section 1 by their names.
 
 ghost use Rattle.std.specs.Prelude.{◌≡◌, ◌+◌, ◌≤◌, ◌<◌, ◌^◌, length, Some};
-ghost use Rattle.grib1_sections.specs.Keys as keys;
-ghost use Rattle.grib1_sections.specs.Keys.{key_in, name1_of, keys1, key1_named, can_set1};
+ghost use Rattle.grib1_sections.specs.Keys.{place_of, key_in, name1_of, keys1, key1_named, can_set1};
 
 use grib_bits::uint_at;
 use std::fmt;
@@ -56,6 +55,13 @@ pub enum Key1 {
     DecimalScale,
 }
 
+/// The octets of Section 1 at which a number stands, counted from 1.
+#[derive(Clone, Copy, Debug)]
+pub struct Place {
+    pub first: usize,
+    pub last: usize,
+}
+
 /// All numbers of Section 1, in the order of their octets.
 const KEYS: [Key1; 22] = [
     Key1::Version,
@@ -105,6 +111,42 @@ impl Key1 {
         !matches!(self, Key1::Flags | Key1::DecimalScale)
     }
 
+    /// The octets at which the number of the key stands.
+    pub fn place(&self) -> Place
+        ensures first { result.first ≡ (place_of self.now).first }
+        ensures last { result.last ≡ (place_of self.now).last }
+        ensures counted { 1 ≤ result.first }
+        ensures some { result.first ≤ result.last }
+        ensures word { result.last ≤ result.first + 1 }
+        ensures within { result.last ≤ 28 }
+    {
+        let (first, last) = match self {
+            Key1::Version => (4, 4),
+            Key1::Centre => (5, 5),
+            Key1::Process => (6, 6),
+            Key1::GridNumber => (7, 7),
+            Key1::Flags => (8, 8),
+            Key1::Parameter => (9, 9),
+            Key1::LevelType => (10, 10),
+            Key1::Level => (11, 12),
+            Key1::YearOfCentury => (13, 13),
+            Key1::Month => (14, 14),
+            Key1::Day => (15, 15),
+            Key1::Hour => (16, 16),
+            Key1::Minute => (17, 17),
+            Key1::Unit => (18, 18),
+            Key1::P1 => (19, 19),
+            Key1::P2 => (20, 20),
+            Key1::TimeRange => (21, 21),
+            Key1::AverageCount => (22, 23),
+            Key1::AverageMissing => (24, 24),
+            Key1::Century => (25, 25),
+            Key1::SubCentre => (26, 26),
+            Key1::DecimalScale => (27, 28),
+        };
+        Place { first, last }
+    }
+
     /// The name of the key, as a command line has it and as it is printed.
     pub fn name(&self) -> &'static str
         ensures { result.now ≡ name1_of self.now }
@@ -144,56 +186,13 @@ impl fmt::Display for Key1 {
     }
 }
 
-/// The octets of Section 1 at which a number stands.
-#[derive(Clone, Copy, Debug)]
-struct Place {
-    first: usize,
-    last: usize,
-}
-
-/// Where the number of the key stands.
-fn place_of(key: Key1) -> Place
-    ensures first { result.first ≡ (keys.place_of key).first }
-    ensures last { result.last ≡ (keys.place_of key).last }
-    ensures counted { 1 ≤ result.first }
-    ensures some { result.first ≤ result.last }
-    ensures word { result.last ≤ result.first + 1 }
-    ensures within { result.last ≤ 28 }
-{
-    let (first, last) = match key {
-        Key1::Version => (4, 4),
-        Key1::Centre => (5, 5),
-        Key1::Process => (6, 6),
-        Key1::GridNumber => (7, 7),
-        Key1::Flags => (8, 8),
-        Key1::Parameter => (9, 9),
-        Key1::LevelType => (10, 10),
-        Key1::Level => (11, 12),
-        Key1::YearOfCentury => (13, 13),
-        Key1::Month => (14, 14),
-        Key1::Day => (15, 15),
-        Key1::Hour => (16, 16),
-        Key1::Minute => (17, 17),
-        Key1::Unit => (18, 18),
-        Key1::P1 => (19, 19),
-        Key1::P2 => (20, 20),
-        Key1::TimeRange => (21, 21),
-        Key1::AverageCount => (22, 23),
-        Key1::AverageMissing => (24, 24),
-        Key1::Century => (25, 25),
-        Key1::SubCentre => (26, 26),
-        Key1::DecimalScale => (27, 28),
-    };
-    Place { first, last }
-}
-
 /// The number of the key in this Section 1.
 pub(crate) fn number_of(section1: &[u8], key: Key1) -> u64
     requires { 28 ≤ length section1.now }
     ensures number { result ≡ key_in section1.now key }
     ensures small { result < 2 ^ 16 }
 {
-    let place = place_of(key);
+    let place = key.place();
     let size = place.last + 1 - place.first;
     u64::from(uint_at(section1, place.first, size))
 }
