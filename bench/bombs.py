@@ -16,6 +16,8 @@ import subprocess
 import sys
 import tempfile
 
+from messages import message_of, section
+
 NI, NJ = 8192, 4096
 FEW = [["check"], ["list"], ["stats"]]  # commands that take no memory for points
 COMMANDS = [["check"], ["list"], ["stats"], ["dump"], ["values"], ["repack", "to=0"], ["repack", "to=42"], ["repack", "to=least"]]
@@ -23,10 +25,6 @@ COMMANDS = [["check"], ["list"], ["stats"], ["dump"], ["values"], ["repack", "to
 
 def number(value, octets):
     return value.to_bytes(octets, "big")
-
-
-def section(which, contents):
-    return number(5 + len(contents), 4) + bytes([which]) + contents
 
 
 def grid(points, ni, nj):
@@ -46,8 +44,7 @@ def message(points, fields, ni=NI, nj=NJ):
     """A message of these fields on one grid."""
     one = section(1, bytes.fromhex("00620000020001 07E8010F0C00000001"))
     four = section(4, bytes.fromhex("0000 0000 00 00 02 FF 01 0000 00 01 00000006 67 00 00000002 FF FF FFFFFFFF"))
-    body = one + grid(points, ni, nj) + b"".join(four + field for field in fields) + b"7777"
-    return b"GRIB\0\0\0\2" + number(16 + len(body), 8) + body
+    return message_of([one, grid(points, ni, nj), *(four + field for field in fields)])
 
 
 def padded(bits):

@@ -10,7 +10,7 @@ import subprocess
 import sys
 from fractions import Fraction
 
-from messages import messages
+from messages import messages, reference_of
 
 BOUND = 2**126
 
@@ -26,8 +26,7 @@ def fields_of(lines):
     for line in lines:
         words = line.split()
         if words[0] == "reference":
-            mantissa, exponent = words[1].split("*2^")
-            fields.append((int(mantissa), int(exponent), int(words[3]), int(words[5]), []))
+            fields.append((*reference_of(words), []))
         elif "." not in words[0]:
             fields[-1][4].append(words[1])
     return fields

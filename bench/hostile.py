@@ -27,6 +27,8 @@ import sys
 import tempfile
 import time
 
+from messages import reference_of
+
 top = os.path.dirname(os.path.dirname(os.path.abspath(__file__)))
 MEGABYTE = 1 << 20
 MOST_POINTS = 40_000  # fields of more points are not dumped here
@@ -700,9 +702,9 @@ def columns(runner, octets):
 
 def value_text(reference, x, places):
     """The value of a point, rounded half to even once, as `dump decimals=` prints it."""
-    mantissa, exponent = reference[1].split("*2^")
-    value = fractions.Fraction(int(mantissa)) * fractions.Fraction(2) ** int(exponent)
-    value = (value + x * fractions.Fraction(2) ** int(reference[3])) / fractions.Fraction(10) ** int(reference[5])
+    mantissa, exponent, binary, decimal = reference_of(reference)
+    value = mantissa * fractions.Fraction(2) ** exponent
+    value = (value + x * fractions.Fraction(2) ** binary) / fractions.Fraction(10) ** decimal
     rounded = round(value * 10**places)
     digits = str(abs(rounded)).rjust(places + 1, "0")
     return ("-" if rounded < 0 else "") + (f"{digits[:-places]}.{digits[-places:]}" if places else digits)

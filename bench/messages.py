@@ -1,4 +1,4 @@
-"""What the scripts that compare with ecCodes share."""
+"""What the scripts that make messages, and those that compare with ecCodes, share."""
 
 
 def messages(data, edition=2):
@@ -27,15 +27,31 @@ def told(causes, done):
     return ", ".join([f"{causes.count(None)} of {len(causes)} {done}"] + stayed)
 
 
+def section(number, contents):
+    """A section of edition 2."""
+    return (5 + len(contents)).to_bytes(4, "big") + bytes([number]) + contents
+
+
+def message_of(parts, discipline=0):
+    """A message of edition 2 of these sections."""
+    body = b"".join(parts) + b"7777"
+    return b"GRIB\0\0" + bytes([discipline, 2]) + (16 + len(body)).to_bytes(8, "big") + body
+
+
+def reference_of(words):
+    """The reference value as mantissa and exponent, and the scale factors E and D, of the words of a reference line."""
+    mantissa, exponent = words[1].split("*2^")
+    return int(mantissa), int(exponent), int(words[3]), int(words[5])
+
+
 def our_fields(text):
     """For each field its reference value, scale factors and points, None where missing."""
     fields = []
     for line in text.splitlines():
         words = line.split()
         if words[0] == "reference":
-            mantissa, exponent = words[1].split("*2^")
-            reference = int(mantissa) * 2.0 ** int(exponent)
-            fields.append((reference, int(words[3]), int(words[5]), []))
+            mantissa, exponent, binary, decimal = reference_of(words)
+            fields.append((mantissa * 2.0**exponent, binary, decimal, []))
         elif "." not in words[0]:
             fields[-1][3].append(None if words[1].startswith("missing") else int(words[1]))
     return fields

@@ -28,7 +28,7 @@ import sys
 import tempfile
 
 from keys import INTERVAL, NAMES, END, ENSEMBLE, PLACES, RANGE, RANGES, SCANNING, fields
-from messages import messages, our_fields
+from messages import message_of, messages, our_fields, section
 
 SAMPLES = "/usr/share/eccodes/samples"
 FILES = "/usr/share/doc/python-grib-doc/examples"
@@ -93,16 +93,6 @@ def printed(rules, octets):
 # What is made
 
 
-def section(number, contents):
-    return (5 + len(contents)).to_bytes(4, "big") + bytes([number]) + contents
-
-
-def message(parts, discipline=0):
-    """A message of these sections."""
-    body = b"".join(parts) + b"7777"
-    return b"GRIB\0\0" + bytes([discipline, 2]) + (16 + len(body)).to_bytes(8, "big") + body
-
-
 def set_by(pairs, octets, again=False):
     return tool(["grib_set", *(["-r"] if again else []), "-s", pairs], octets)
 
@@ -136,20 +126,20 @@ def by_octets(plain, values):
     five, jpeg = parts[5], next(fields(set_by("packingType=grid_jpeg", values, True)))
     # Run-length packing with level values: 8 bits, greatest level 3 of 3, scale 0, three values; octets of two runs.
     levels = five[5:9] + (200).to_bytes(2, "big") + bytes([8, 0, 3, 0, 3, 0]) + bytes([0, 0, 0, 1, 0, 2])
-    yield "packing 5.200", message([parts[1], parts[3], parts[4], section(5, levels), parts[6], section(7, bytes([1, 255, 2]))])
-    yield "packing 5.65535", message([parts[1], parts[3], parts[4], section(5, five[5:9] + b"\xff\xff"), parts[6], section(7, b"")])
+    yield "packing 5.200", message_of([parts[1], parts[3], parts[4], section(5, levels), parts[6], section(7, bytes([1, 255, 2]))])
+    yield "packing 5.65535", message_of([parts[1], parts[3], parts[4], section(5, five[5:9] + b"\xff\xff"), parts[6], section(7, b"")])
     yield "packing 5.42", ran(["repack", "to=42", "profile=open"], values)[1]
     elsewhere = section(3, b"\x01" + parts[3][6:10] + b"\0\0\0\0")
-    yield "a grid that is defined elsewhere", message([parts[1], elsewhere, *(parts[n] for n in (4, 5, 6, 7))])
+    yield "a grid that is defined elsewhere", message_of([parts[1], elsewhere, *(parts[n] for n in (4, 5, 6, 7))])
     by_centre = section(3, b"\xff" + parts[3][6:10] + b"\0\0\xff\xff" + b"anything")
-    yield "a grid of no template", message([parts[1], by_centre, *(parts[n] for n in (4, 5, 6, 7))])
+    yield "a grid of no template", message_of([parts[1], by_centre, *(parts[n] for n in (4, 5, 6, 7))])
     product = section(4, b"\0\0\xff\xfe" + bytes([3, 5]))
-    yield "a product of 11 octets", message([parts[1], parts[3], product, parts[5], parts[6], parts[7]])
+    yield "a product of 11 octets", message_of([parts[1], parts[3], product, parts[5], parts[6], parts[7]])
     first = [parts[n] for n in (1, 3, 4, 5, 6, 7)]
-    yield "two packings", message(first + [jpeg[n] for n in (4, 5, 6, 7)])
-    yield "two packings, the opaque one first", message([jpeg[n] for n in (1, 3, 4, 5, 6, 7)] + [parts[n] for n in (4, 5, 6, 7)])
+    yield "two packings", message_of(first + [jpeg[n] for n in (4, 5, 6, 7)])
+    yield "two packings, the opaque one first", message_of([jpeg[n] for n in (1, 3, 4, 5, 6, 7)] + [parts[n] for n in (4, 5, 6, 7)])
     other = next(fields(set_by("gridDefinitionTemplateNumber=101", plain)))
-    yield "two grids", message(first + [other[n] for n in (3, 4, 5, 6, 7)])
+    yield "two grids", message_of(first + [other[n] for n in (3, 4, 5, 6, 7)])
 
 
 # What is read in the octets

@@ -21,6 +21,8 @@ from fractions import Fraction
 import gribapi
 import numpy
 
+from messages import reference_of
+
 top = os.path.dirname(os.path.dirname(os.path.abspath(__file__)))
 sys.path.insert(0, f"{top}/share/python")
 import tachilwe
@@ -84,8 +86,8 @@ def scales(path):
     for line in lines(path, "stats", "kept=pass") or lines(path, "stats"):
         words = line.split()
         if words[0] == "reference":
-            mantissa, exponent = words[1].split("*2^")
-            found[place] = int(mantissa) * Fraction(2) ** int(exponent), Fraction(2) ** int(words[3]), Fraction(10) ** int(words[5])
+            mantissa, exponent, binary, decimal = reference_of(words)
+            found[place] = mantissa * Fraction(2) ** exponent, Fraction(2) ** binary, Fraction(10) ** decimal
         else:
             place = words[0]
     return found
