@@ -6,8 +6,8 @@ man page with `man`, and the links of the pages with what is there, here and whe
 
 Each command, name and key of the page is valid in the program and stands in the completion, and the completion has no
 others; so have `refused=`, `kept=` and `profile=`, each with the commands that take it. `help` of the program has a line on each
-command, and no others, and the page has the version. The keys of the page, of GUIDE and of PROFILE are the same, with
-what can be set and may be missing, and each page that says how many keys there are has their number. The reasons,
+command, and no others, and the page has the version. The keys of edition 2 of the page, of GUIDE and of PROFILE are the same, with
+what can be set and may be missing, and those of edition 1 of the page are those of the program, and each page that says how many keys there are has their number. The reasons,
 causes and losses of PROFILE stand in GUIDE and in the man page. The statuses of README, of GUIDE and of the man page
 are those of chapter 9 of docs/PROFILE.md, with 11, 70 and 127. A shell completes names of files, odd ones too. Each
 link of a page leads to a page and heading, here and in what install.sh puts under PREFIX, and so does each path that
@@ -27,10 +27,12 @@ import time
 top = os.path.dirname(os.path.dirname(os.path.abspath(__file__)))
 # For each command arguments that are valid.
 WORDS = {
-    "check": [], "list": [], "stats": [], "dump": ["decimals=2"], "values": ["as=f4"], "filter": ["centre=98"], "set": ["centre=98"],
-    "split": ["out=/nonexistent/part"], "repack": ["to=3", "order=1"], "rescan": [], "crop": ["i0=0", "i1=0", "j0=0", "j1=0"],
+    "check": [], "list": ["with=centre,Centre,at,octets", "names=/nonexistent/names"], "stats": [], "dump": ["decimals=2"], "values": ["as=f4"],
+    "filter": ["centre=98", "name=TMP,HGT", "names=/nonexistent/names"], "set": ["centre=98", "dates=valid"],
+    "split": ["out=/nonexistent/part", "editions=both"], "repack": ["to=3", "order=1"], "rescan": [], "crop": ["i0=0", "i1=0", "j0=0", "j1=0"],
     "migrate": ["params=/nonexistent/table", "surfaces=/nonexistent/surfaces", "local=ecmwf"],
-    "demote": ["params=/nonexistent/table", "local=keep", "earth=any", "tables=any"], "keys": [], "help": [], "version": [],
+    "demote": ["params=/nonexistent/table", "local=keep", "earth=any", "tables=any"],
+    "keys": ["show=centre,octets", "names=/nonexistent/names"], "help": [], "version": [],
     "make": ["seed=1", "ni=1", "nj=1", "to=3", "order=2"],
 }
 # `refused=` and `kept=`, of the commands that have them.
@@ -188,6 +190,13 @@ def check_keys(page, profile):
     return {key: can for key, (can, _) in wanted.items()}
 
 
+def keys_of_edition_1(page):
+    """The keys of edition 1 of the man page, each with whether it can be set."""
+    keys = {key: mark != "f" for key, mark in re.findall(r"^(\w+)\t[\d\\-]+\t(f?)\t", section(page, "KEYS"), re.M)}
+    hold(len(keys) == 22, f"{len(keys)} keys of edition 1")
+    return keys
+
+
 def check_names(page, profile):
     """The reasons, causes and losses of PROFILE stand in GUIDE and in the man page."""
     names = re.findall(r"^\| \d+ \| (\w+) \|", re.search(r"^### The reasons\n(.*?)^###", profile, re.M | re.S).group(1), re.M)
@@ -238,11 +247,19 @@ def main():
     wanted = check_keys(page, profile)
     check_names(page, profile)
     past = {word.split("=")[0] + "=" for word in PAST["filter"] + PROFILE["filter"]}
-    hold(set(completed("grib filter ")) == {key + "=" for key in wanted} | past, "keys of filter in the completion")
-    hold(set(completed("grib set ")) == {key + "=" for key, can in wanted.items() if can} | past, "keys of set in the completion")
-    for key, can in wanted.items():
+    first = keys_of_edition_1(page)
+    both = {**wanted, **first}
+    hold(set(completed("grib filter ")) == {key + "=" for key in both} | past | {"name=", "names="}, "keys of filter in the completion")
+    hold(set(completed("grib set ")) == {key + "=" for key, can in both.items() if can} | past | {"dates="}, "keys of set in the completion")
+    hold(set(completed("grib filter Centre=98 ")) == {key + "=" for key in first if key != "Centre"} | past, "keys beside one of edition 1 in the completion")
+    hold(set(completed("grib set centre=98 ")) == {key + "=" for key, can in wanted.items() if can and key != "centre"} | past | {"dates="}, "keys beside one of edition 2 in the completion")
+    hold(completed("grib list with=centre,subC") == ["centre,subCentre"], "columns in the completion")
+    for key, can in both.items():
         hold(has_reading(program, "filter", f"{key}=1"), f"not in the program: filter {key}")
         hold(has_reading(program, "set", f"{key}=1") == can, f"otherwise in the program: set {key}")
+        hold(has_reading(program, "list", f"with={key}"), f"not in the program: list with={key}")
+    hold(not has_reading(program, "filter", "Centre=98", "centre=98"), "read by the program: filter with keys of both editions")
+    hold(not has_reading(program, "filter", "name=TMP"), "read by the program: filter name= without names=")
 
     statuses = {int(number) for number in re.findall(r"^\.B (\d+)$", section(page, "EXIT STATUS"), re.M)}
     rows = {int(number) for number in re.findall(r"^\| \w+(?:\(i\))? \| (\d+) \|", re.search(r"^### Outcomes and statuses\n(.*?)^###", profile, re.M | re.S).group(1), re.M)}

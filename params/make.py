@@ -1,13 +1,15 @@
 #!/usr/bin/env python3
 """Makes the parameter table of `migrate`, standard.csv, and beside it names.txt, which has each record with the name of
-its parameter in edition 1 and in edition 2, to be read by eye.
+its parameter in edition 1 and in edition 2, to be read by eye; and the tables of short names of edition 2, names2.csv
+with WMO's parameters and names2-ncep.csv with NCEP's own.
 
-    params/make.py [FOLDER]     the folder that the two are written to, or this one
+    params/make.py [FOLDER]     the folder that they are written to, or this one
 
 Needs the definitions of ecCodes (Debian: libeccodes-data) in /usr/share/eccodes/definitions. The pairs of numbers below
 are the choice; the script takes the names from the definitions, finds the first version of the master tables that has a
 number, and stops where a number has no name, where two records have the same parameter of edition 1, or where two
-parameters of a centre and version have the same target."""
+parameters of a centre and version have the same target. Short names come from the definitions by the rule of
+`short_name`."""
 import os
 import re
 import sys
@@ -154,6 +156,12 @@ LEFT_OUT = {
     "128.43": "soil type: ECMWF counts other types than code table 4.213",
 }
 
+# What a short name of ecCodes may ask of a field besides its parameter, and still be the name of the parameter: its level,
+# and its time range. Not a constituent, a wavelength or a probability, each of which is another thing under one number.
+NUMBERS = ("discipline", "parameterCategory", "parameterNumber")
+SURFACES = {f"{what}Of{which}FixedSurface" for what in ("type", "scaleFactor", "scaledValue") for which in ("First", "Second")}
+TIME_RANGE = {"typeOfStatisticalProcessing", "lengthOfTimeRange", "indicatorOfUnitForTimeRange"}
+
 
 def fail(what):
     sys.exit(f"make.py: {what}")
@@ -200,9 +208,8 @@ def master_of(target):
 
 def local_names():
     """The names of NCEP's own numbers of edition 2."""
-    keys = ("discipline", "parameterCategory", "parameterNumber")
-    return {tuple(int(found[key]) for key in keys): name
-            for name, found in concepts("grib2/localConcepts/kwbc/name.def") if set(found) == set(keys)}
+    return {tuple(int(found[key]) for key in NUMBERS): name
+            for name, found in concepts("grib2/localConcepts/kwbc/name.def") if set(found) == set(NUMBERS)}
 
 
 def wmo():
@@ -219,11 +226,10 @@ def ncep():
 
 
 def ecmwf():
-    keys = {"discipline", "parameterCategory", "parameterNumber"}
     plain = {}
     for identity, found in concepts("grib2/paramId.def"):
-        if set(found) == keys:
-            plain.setdefault(identity, tuple(int(found[key]) for key in ("discipline", "parameterCategory", "parameterNumber")))
+        if set(found) == set(NUMBERS):
+            plain.setdefault(identity, tuple(int(found[key]) for key in NUMBERS))
     by_hand = {place: number_of(target) for place, target in re.findall(r"(\d+\.\d+) (\d+\.\d+\.\d+)", ECMWF)}
     names = {(found["table2Version"], found["indicatorOfParameter"]): name for name, found in concepts("grib1/localConcepts/ecmf/name.def")}
     for identity, found in concepts("grib1/localConcepts/ecmf/paramId.def"):
@@ -232,6 +238,28 @@ def ecmwf():
         target = by_hand.get(place) or plain.get(identity)
         if target and place not in LEFT_OUT and not is_local(target):
             yield 98, int(version), int(parameter), target, names[version, parameter]
+
+
+def short_name(given):
+    """Of the short names that ecCodes has under three numbers, each with what else it asks of a field, the one that asks
+    the least of the time range; of these one that asks nothing of the level, or else the shortest; none where each asks
+    for more."""
+    ranked = [(len(asked & TIME_RANGE), bool(asked), len(name), name) for name, asked in given
+              if asked <= SURFACES | TIME_RANGE and re.fullmatch("[A-Za-z0-9_-]{1,32}", name)]
+    return min(ranked)[-1] if ranked else None
+
+
+def short_names(name, is_wanted):
+    """The records of a table of short names, by their numbers. Of several with one name the first stays."""
+    given, seen, records = {}, set(), []
+    for short, found in concepts(name):
+        given.setdefault(tuple(int(found[key]) for key in NUMBERS), []).append((short, set(found) - set(NUMBERS)))
+    for numbers in sorted(filter(is_wanted, given)):
+        short = short_name(given[numbers])
+        if short and short not in seen:
+            seen.add(short)
+            records.append(",".join(map(str, (*numbers, short))))
+    return records
 
 
 def main():
@@ -249,10 +277,12 @@ def main():
                 master, its_name = master_of(target)
             records.append(",".join(map(str, (centre, version, parameter, *target, master, int(is_local(target))))))
             lines.append(f"{records[-1]:26} {name}  =  {its_name}")
-    for name, text in (("standard.csv", records), ("names.txt", lines)):
+    names = short_names("grib2/shortName.def", lambda numbers: max(numbers) < 192)
+    ncep_names = short_names("grib2/localConcepts/kwbc/shortName.def", is_local)
+    for name, text in (("standard.csv", records), ("names.txt", lines), ("names2.csv", names), ("names2-ncep.csv", ncep_names)):
         with open(f"{folder}/{name}", "w", encoding="utf-8") as file:
             file.write("".join(line + "\n" for line in text))
-    print(f"{len(records)} records")
+    print(f"{len(records)} records, {len(names)} short names, {len(ncep_names)} of NCEP")
 
 
 if __name__ == "__main__":

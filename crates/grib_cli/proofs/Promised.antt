@@ -17,15 +17,16 @@ use Rattle.grib_run_spec.specs.Tasks.{IfHears, IfReads, Work, Reads, Makes, Read
 use Rattle.grib_run_law.specs.Judged.{Judges}
 use Rattle.grib_run_law.specs.Leaving.{Leaves}
 use Rattle.grib_cli.specs.Answers.{Answers}
-use Rattle.grib_cli.specs.declared.words.JobFault.{JobFault}
-use Rattle.grib_cli.specs.declared.words.JobFault.TheVariants.{Usage}
-use Rattle.grib_cli.specs.declared.words.command.Command as lines
-use Rattle.grib_cli.specs.declared.words.command.Command.TheVariants as the
-use Rattle.grib_cli.specs.Helping.{is_help, is_on_words, told_of_words}
-use Rattle.grib_cli.specs.Reading.{has_equals, command_named, is_read, read_count, reading_of, reading}
-use Rattle.grib_cli.specs.Words.{IsAsked, job_of, job_of_reading, policy_of, profile_of, work_by, work_of}
+use Rattle.grib_words.specs.declared.job.JobFault.{JobFault}
+use Rattle.grib_words.specs.declared.job.JobFault.TheVariants.{Usage}
+use Rattle.grib_words.specs.declared.command.Command as lines
+use Rattle.grib_words.specs.declared.command.Command.TheVariants as the
+use Rattle.grib_help.specs.Helping.{is_help, is_on_words, told_of_words}
+use Rattle.grib_words.specs.Reading.{has_equals, command_named, is_read, read_count, reading_of, reading}
+use Rattle.grib_words.specs.Words.{IsAsked, job_of, job_of_reading, policy_of, profile_of}
+use Rattle.grib_cli.specs.Asked.{work_by, work_of}
 use Rattle.grib_engine.proofs.Unread.{left_alone}
-use Rattle.grib_cli.proofs.Asked.{either, same_text, has_read, is_job, read_behind}
+use Rattle.grib_words.proofs.Asked.{either, same_text, has_read, is_job, read_behind}
 
 -- ---- words behind `help`
 
@@ -144,7 +145,7 @@ words_stand words = read_job words (reading words) refl
 hears_any : (work : Work) (P : Type 0) → P → IfReads work None (λ command. command.hears ≡ true → P)
 hears_any (Reads command) P held = λ hears. held
 hears_any (Makes stated) P held = tt
-hears_any (ReadsTables params surfaces commands) P held = tt
+hears_any (ReadsTables asked commands) P held = tt
 
 pub soon_never : (profile : Profile) (asked : Result Job JobFault) (outcome : Outcome) (left left_now : Option (List ℕ)) → (outcome ≡ outcomes.Memory) ⊎ (outcome ≡ outcomes.WriteFault)
     → IfOk asked (λ job. IfHears job (RefusesInTime profile outcome left left_now))
@@ -158,4 +159,4 @@ soon_never profile (Err fault) outcome left left_now one = tt
 pub unread_any : (work : Work) (names : Option Held) (P : Type 0) → P → IfUnread work names P
 unread_any (Reads command) names P held = tt
 unread_any (Makes stated) names P held = held
-unread_any (ReadsTables params surfaces commands) names P held = left_alone params surfaces commands names P held
+unread_any (ReadsTables asked commands) names P held = left_alone asked commands names P held

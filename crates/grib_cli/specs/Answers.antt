@@ -12,7 +12,8 @@ use Rattle.grib_run_spec.specs.Serving.{AnswersWork, NotesTold, Stands}
 use Rattle.grib_run_spec.specs.Tasks.{IfHears, has_shelf, has_table}
 use Rattle.grib_run_law.specs.Judged.{Judges}
 use Rattle.grib_run_law.specs.Leaving.{Leaves}
-use Rattle.grib_cli.specs.Words.{job_of, policy_of, profile_of, work_of}
+use Rattle.grib_words.specs.Words.{job_of, policy_of, profile_of}
+use Rattle.grib_cli.specs.Asked.{work_of}
 
 -- `takes_memory` says whether the output or the notes may stop for memory.
 pub record Answers (takes_memory : Bool) (words : List (List ℕ)) (outcome : Outcome) (before now : Seen) : Type 0 where

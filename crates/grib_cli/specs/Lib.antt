@@ -1,7 +1,2 @@
-pub mod Words
-pub mod Values
-pub mod Choices
-pub mod Reading
-pub mod Helping
-pub mod HelpLines
+pub mod Asked
 pub mod Answers

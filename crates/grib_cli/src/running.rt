@@ -6,21 +6,21 @@ ghost use Rattle.grib_run_spec.specs.Seen.{seen};
 ghost use Rattle.grib_run_spec.specs.Serving.{IfUnread, Serves};
 ghost use Rattle.grib_run_spec.specs.Tasks.{Makes, has_shelf, writing};
 ghost use Rattle.grib_cli.specs.Answers.{Answers};
-ghost use Rattle.grib_cli.specs.Helping.{told_of_words};
-ghost use Rattle.grib_cli.specs.Words as asked;
+ghost use Rattle.grib_help.specs.Helping.{told_of_words};
+ghost use Rattle.grib_cli.specs.Asked as asked;
 
-use crate::help::{is_on_words, told_of_words};
-use crate::words::{JobFault, job_of, policy_of, profile_of};
 use grib_engine::{Outcome, end_at_once, end_without_memory, serve_under, write_noted};
+use grib_help::{is_on_words, told_of_words};
 use grib_io::{Shelf, Sink, Source};
 use grib_run_law::laws::{what_a_run_answers_is_in_the_grammar, what_a_run_leaves};
+use grib_words::{JobFault, job_of, policy_of, profile_of};
 use std::alloc::Global;
 
 /// Does what the arguments ask for with the messages of `input`, or without it: writes the answer to `output`
-/// and notes how the run ended. The answer is a function of the arguments, the input and, for `migrate` and `demote`,
-/// the tables that stand on the shelf; it does not depend on how the input comes in pieces. `split`, `migrate` and
-/// `demote` alone use the shelf, and of these only `split` changes it. `help` with arguments after it is answered by what
-/// there is to tell of them, and asks for no job.
+/// and notes how the run ended. The answer is a function of the arguments, the input and the tables that the arguments
+/// name and that stand on the shelf; it does not depend on how the input comes in pieces. `split` and what names a table
+/// alone use the shelf, and only `split` changes it. `help` with arguments after it is answered by what there is to tell of
+/// them, and asks for no job.
 pub fn run<S: Source, T: Sink, N: Sink, H: Shelf>(
     alloc: Global,
     words: &[String],

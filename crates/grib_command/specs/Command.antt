@@ -114,11 +114,14 @@ printing first second ending = record {
   profile = Stated;
 }
 
--- a text is printed of a message of edition 1 with its number, and one of each field of a message of edition 2
+-- a text is printed of a message of edition 1 at its place, and one of each field of a message of edition 2
+abbrev pub printing_places : (Place → List ℕ → List ℕ) → (Place → List ℕ → ℕ → List ℕ) → Command
+printing_places first text = printing first (λ place message. texts_from (text place message) (field_count message) 1) Silent
+
+-- the same of texts that have of its place the message's number alone
 abbrev pub printing_fields : (List ℕ → ℕ → List ℕ) → (List ℕ → ℕ → ℕ → List ℕ) → Command
 printing_fields first text =
-    printing (λ place message. first message place.message)
-    (λ place message. texts_from (text message place.message) (field_count message) 1) Silent
+    printing_places (λ place message. first message place.message) (λ place message. text message place.message)
 
 -- a command that reads the values of messages of edition 2
 abbrev pub reading_values : Command → Command

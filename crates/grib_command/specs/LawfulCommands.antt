@@ -16,7 +16,7 @@ use Rattle.grib_reasons.specs.declared.cause.Cause.TheVariants.{EditionOne, Pack
 use Rattle.grib_stream.specs.Acts.{Act}
 use Rattle.grib_stream.specs.Outcomes.{is_of_message}
 use Rattle.grib_stream.specs.Task.{Given, Gives, Ends}
-use Rattle.grib_command.specs.Command.{Command, IsLawfulCommand, under, given_text, given_unless, given_readable, of_values, kept_at, kept_first, printing, printing_fields, changing, changing_unless, reading_values}
+use Rattle.grib_command.specs.Command.{Command, IsLawfulCommand, under, given_text, given_unless, given_readable, of_values, kept_at, kept_first, printing, printing_fields, changing, changing_unless, reading_values, printing_places}
 use Rattle.grib_command.specs.declared.ending.Ending.{Ending}
 
 -- nothing of a text is counted
@@ -44,6 +44,9 @@ printing_lawful first second ending = record {
   ends_first = λ place message outcome is. text_goes_on (first place message) outcome is;
   ends_second = λ place message outcome is. text_goes_on (second place message) outcome is;
 }
+
+pub places_lawful : (first : Place → List ℕ → List ℕ) (text : Place → List ℕ → ℕ → List ℕ) → IsLawfulCommand (printing_places first text)
+places_lawful first text = printing_lawful _ _ _
 
 pub fields_lawful : (first : List ℕ → ℕ → List ℕ) (text : List ℕ → ℕ → ℕ → List ℕ) → IsLawfulCommand (printing_fields first text)
 fields_lawful first text = printing_lawful _ _ _

@@ -4,10 +4,11 @@ use Rattle.std.specs.Prelude.{ℕ, Option, Some, None, List, [], ◌∷◌, ◌+
 use Rattle.std.specs.Fmt.{decimal}
 use Rattle.grib_base.specs.declared.fault.Fault.{Fault}
 use Rattle.grib_keys.specs.Keys.{name_of}
+use Rattle.grib1_sections.specs.Keys.{name1_of}
 use Rattle.grib_text.specs.Notes.{refusal_text}
 use Rattle.grib_stream.specs.declared.place.Totals.{Totals}
 use Rattle.grib_reasons.specs.declared.cause.Cause.{Cause}
-use Rattle.grib_reasons.specs.declared.cause.Cause.TheVariants.{EditionOne, SecondaryMissing, OutOfRange, DifferenceRange, OutputTooLong, KeyRange, KeyAbsent, Lost, GridKind, ScanMode, OutsideBox, Increments, DecimalRange, Demoted, Packing}
+use Rattle.grib_reasons.specs.declared.cause.Cause.TheVariants.{EditionOne, EditionTwo, SecondaryMissing, OutOfRange, DifferenceRange, OutputTooLong, KeyRange, KeyRange1, KeyAbsent, Lost, GridKind, ScanMode, OutsideBox, Increments, DecimalRange, Demoted, Packing, Date}
 use Rattle.grib_reasons.specs.Losses as losses
 use Rattle.grib_reasons.specs.Demotions as demotions
 use Rattle.grib_reasons.specs.declared.table.TableRefusal.{TableRefusal}
@@ -47,11 +48,13 @@ text_of_packing head template field = head ++ codes " Packing " ++ decimal templ
 -- what cannot be changed, and by what
 abbrev pub kept_text : List ℕ → Cause → List ℕ
 kept_text head EditionOne = head ++ codes " EditionOne" ++ 10 ∷ []
+kept_text head EditionTwo = head ++ codes " EditionTwo" ++ 10 ∷ []
 kept_text head (SecondaryMissing field point) = text_at_point head (codes "SecondaryMissing") field point
 kept_text head (OutOfRange field point) = text_at_point head (codes "OutOfRange") field point
 kept_text head (DifferenceRange field) = text_in_field head (codes "DifferenceRange") field
 kept_text head (OutputTooLong length) = head ++ codes " OutputTooLong " ++ decimal length ++ 10 ∷ []
 kept_text head (KeyRange key) = text_at_key head (name_of key)
+kept_text head (KeyRange1 key) = text_at_key head (name1_of key)
 kept_text head (KeyAbsent field key) = text_without_key head (name_of key) field
 kept_text head (Lost loss) = text_of_loss head (losses.name_of loss) (losses.number_of loss)
 kept_text head (GridKind field) = text_in_field head (codes "GridKind") field
@@ -61,6 +64,7 @@ kept_text head (Increments field) = text_in_field head (codes "Increments") fiel
 kept_text head (DecimalRange field point) = text_at_point head (codes "DecimalRange") field point
 kept_text head (Demoted field loss) = text_of_demotion head (demotions.name_of loss) (demotions.number_of loss) field
 kept_text head (Packing template field) = text_of_packing head template field
+kept_text head Date = head ++ codes " Date" ++ 10 ∷ []
 
 -- message m cannot be changed, and the run ends with it
 abbrev pub kept_note : ℕ → Cause → List ℕ

@@ -3,18 +3,27 @@
 use crate::name::Name;
 use crate::page::Page;
 use grib_base::{List, Profile};
+use grib_dates::Dates;
 use grib_migrate::Local;
 use grib_nearest::Format;
 use grib_params::TableMatch;
 use grib_repack::RepackTarget;
 use grib_rescan::Area;
 use grib_select::{Change, Wanted};
+use grib_text::{Columns, LineForm};
+use grib1_select::{Change1, Wanted1};
 
 /// Keys with what is asked of their values.
 pub type Conditions = List<Wanted>;
 
 /// Keys with the values that they are to have.
 pub type Changes = List<Change>;
+
+/// The same of keys of edition 1.
+pub type Conditions1 = List<Wanted1>;
+
+/// The same of keys of edition 1.
+pub type Changes1 = List<Change1>;
 
 /// What is to be done with the messages of an input, or without one.
 #[derive(Debug, Drop)]
@@ -25,6 +34,13 @@ pub enum Job {
     List,
     /// A line for each field with each key that the field has.
     Keys,
+    /// A line for each field, of this form, with these columns and, where a table of names stands on the shelf under
+    /// this name, with the name of the field's parameter.
+    Lines {
+        form: LineForm,
+        columns: Columns,
+        names: Option<Name>,
+    },
     /// For each field how many of its points are present and missing, its least and its greatest
     /// scaled integer, and its reference line.
     Stats,
@@ -38,10 +54,31 @@ pub enum Job {
     /// Each message whose fields all fulfil the conditions, and of another one each field that does, as a
     /// message of its own.
     Filter(Conditions),
-    /// Each field as a message of its own, on the shelf under this name with its number behind a `.`.
-    Split(Name),
-    /// Each message with new values of some keys.
-    Set(Changes),
+    /// The same of messages whose fields fulfil the conditions and have a parameter of one of these names, by the table
+    /// of names that stands on the shelf under this name.
+    FilterNamed {
+        conditions: Conditions,
+        names: Name,
+        wanted: List<Name>,
+    },
+    /// Each message of edition 1 that fulfils the conditions.
+    Filter1(Conditions1),
+    /// Each field as a message of its own, on the shelf under this name with its number behind a `.`; those of
+    /// edition 1 too where they are asked for.
+    Split {
+        name: Name,
+        edition_1: bool,
+    },
+    /// Each message of edition 2 with new values of some keys.
+    Set {
+        changes: Changes,
+        dates: Dates,
+    },
+    /// Each message of edition 1 with new values of some keys.
+    Set1 {
+        changes: Changes1,
+        dates: Dates,
+    },
     /// Each message with its fields packed anew.
     Repack(RepackTarget),
     /// Each message with each of its fields in the packing of this profile that takes the fewest octets, or as it is.

@@ -13,7 +13,7 @@ mod writing;
 pub use answered::{Answered, printed, unreadable, written};
 pub use answerer::{Answerer, ByOutput, Writer};
 pub use ending::Ending;
-pub use job::{Changes, Conditions, Job};
+pub use job::{Changes, Changes1, Conditions, Conditions1, Job};
 pub use name::Name;
 pub use notes::{
     copied_line, kept_line, kept_note, made_note, passed_note, surfaces_note, table_note,

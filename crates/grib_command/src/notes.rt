@@ -75,6 +75,7 @@ fn kept_text(alloc: Global, head: &str, cause: &Cause) -> Result<String, AllocEr
 {
     match *cause {
         Cause::EditionOne => format!(in alloc; "{head} EditionOne\n"),
+        Cause::EditionTwo => format!(in alloc; "{head} EditionTwo\n"),
         Cause::SecondaryMissing { field, point } => {
             text_at_point(alloc, head, "SecondaryMissing", field, point)
         }
@@ -84,6 +85,7 @@ fn kept_text(alloc: Global, head: &str, cause: &Cause) -> Result<String, AllocEr
         Cause::DifferenceRange { field } => text_in_field(alloc, head, "DifferenceRange", field),
         Cause::OutputTooLong(length) => { format!(in alloc; "{head} OutputTooLong {length}\n") }
         Cause::KeyRange { key } => text_at_key(alloc, head, key.name()),
+        Cause::KeyRange1 { key } => text_at_key(alloc, head, key.name()),
         Cause::KeyAbsent { field, key } => { text_without_key(alloc, head, key.name(), field) }
         Cause::Lost(loss) => lost_text(alloc, head, &loss),
         Cause::Demoted { field, loss } => demoted_text(alloc, head, &loss, field),
@@ -95,6 +97,7 @@ fn kept_text(alloc: Global, head: &str, cause: &Cause) -> Result<String, AllocEr
             text_at_point(alloc, head, "DecimalRange", field, point)
         }
         Cause::Packing { template, field } => text_of_packing(alloc, head, template, field),
+        Cause::Date => format!(in alloc; "{head} Date\n"),
     }
 }
 

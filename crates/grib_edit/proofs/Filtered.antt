@@ -10,69 +10,67 @@ use Rattle.grib_edit.specs.Fronts.{IsFront}
 use Rattle.grib_io.specs.Outside.{AppendsFront}
 use Rattle.grib_base.specs.Rows.{choose}
 use Rattle.grib_base.specs.declared.limits.TheConstants.{MOST_OCTETS}
-use Rattle.grib_keys.specs.declared.wanted.Wanted.{Wanted}
-use Rattle.grib_select.specs.Values.{fulfils_all}
 use Rattle.grib_select.specs.Single.{single_of}
 use Rattle.grib2_message.specs.Fields.{field_count}
 use Rattle.grib_command.specs.Pending.{Writes}
 use Rattle.grib_command.specs.Command.{texts_from}
-use Rattle.grib_edit.specs.Filtering.{all_fulfil, single_if, filtered}
+use Rattle.grib_edit.specs.Choosing.{all_chosen, single_chosen, chosen_of}
 use Rattle.grib_command.proofs.Outside.{front_more}
 use Rattle.grib_command.proofs.Passing.{texts_more, texts_join}
 
--- whether n fields from field i on fulfil the conditions
-abbrev pub all_from : List Wanted → List ℕ → ℕ → ℕ → Bool
-all_from conditions message i n = list_all (λ j. fulfils_all message j conditions) (range_with_len i n)
+-- whether n fields from field i on are chosen
+abbrev pub all_from : (ℕ → Bool) → List ℕ → ℕ → ℕ → Bool
+all_from chosen message i n = list_all chosen (range_with_len i n)
 
-each_on : (conditions : List Wanted) (message : List ℕ) (i n : ℕ) → ((j : ℕ) → i ≤ j → j < i + n → fulfils_all message j conditions ≡ true)
-    → all_from conditions message i n ≡ true
-each_on conditions message i zero each = refl
-each_on conditions message i (suc n) each =
-    ap (λ b. b && all_from conditions message (i + 1) n) (each i (omega arith) (omega arith))
-    ∙ each_on conditions message (i + 1) n (λ j low high. each j (omega arith) (omega arith))
+each_on : (chosen : ℕ → Bool) (message : List ℕ) (i n : ℕ) → ((j : ℕ) → i ≤ j → j < i + n → chosen j ≡ true)
+    → all_from chosen message i n ≡ true
+each_on chosen message i zero each = refl
+each_on chosen message i (suc n) each =
+    ap (λ b. b && all_from chosen message (i + 1) n) (each i (omega arith) (omega arith))
+    ∙ each_on chosen message (i + 1) n (λ j low high. each j (omega arith) (omega arith))
 
-one_off : (conditions : List Wanted) (message : List ℕ) (i n j : ℕ) → i ≤ j → j < i + n → fulfils_all message j conditions ≡ false
-    → all_from conditions message i n ≡ false
-one_off conditions message i zero j low high off = absurd (omega arith)
-one_off conditions message i (suc n) j low high off =
+one_off : (chosen : ℕ → Bool) (message : List ℕ) (i n j : ℕ) → i ≤ j → j < i + n → chosen j ≡ false
+    → all_from chosen message i n ≡ false
+one_off chosen message i zero j low high off = absurd (omega arith)
+one_off chosen message i (suc n) j low high off =
     ⊎_elim
-    (λ (here : i ≡ j). ap (λ b. b && all_from conditions message (i + 1) n) (ap (λ k. fulfils_all message k conditions) here ∙ off))
+    (λ (here : i ≡ j). ap (λ b. b && all_from chosen message (i + 1) n) (ap (λ k. chosen k) here ∙ off))
     (λ (later : i ≢ j).
-    and_right (fulfils_all message i conditions) (all_from conditions message (i + 1) n) (one_off conditions message (i + 1) n j (omega (arith, later)) (omega arith) off))
+    and_right (chosen i) (all_from chosen message (i + 1) n) (one_off chosen message (i + 1) n j (omega (arith, later)) (omega arith) off))
     (cases_eq i j)
 
--- where all fields fulfil the conditions, and where one does not
-pub front_whole : (conditions : List Wanted) (message : List ℕ) (front : ℕ) → IsFront conditions message front → field_count message ≤ front
-    → all_fulfil conditions message ≡ true
-front_whole conditions message front is all =
-    each_on conditions message 1 (field_count message) (λ j low high. is.fulfil j low (omega arith))
+-- where all fields are chosen, and where one does not
+pub front_whole : (chosen : ℕ → Bool) (message : List ℕ) (front : ℕ) → IsFront chosen message front → field_count message ≤ front
+    → all_chosen chosen message ≡ true
+front_whole chosen message front is all =
+    each_on chosen message 1 (field_count message) (λ j low high. is.fulfil j low (omega arith))
 
-pub front_short : (conditions : List Wanted) (message : List ℕ) (front : ℕ) → IsFront conditions message front → front < field_count message
-    → all_fulfil conditions message ≡ false
-front_short conditions message front is less =
-    one_off conditions message 1 (field_count message) (front + 1) (omega arith) (omega arith) (is.next less)
+pub front_short : (chosen : ℕ → Bool) (message : List ℕ) (front : ℕ) → IsFront chosen message front → front < field_count message
+    → all_chosen chosen message ≡ false
+front_short chosen message front is less =
+    one_off chosen message 1 (field_count message) (front + 1) (omega arith) (omega arith) (is.next less)
 
 -- one field more
-pub front_one_more : (conditions : List Wanted) (message : List ℕ) (n field : ℕ) → field ≡ n + 1
-    → ((j : ℕ) → 1 ≤ j → j ≤ n → fulfils_all message j conditions ≡ true) → fulfils_all message field conditions ≡ true
-    → (j : ℕ) → 1 ≤ j → j ≤ n + 1 → fulfils_all message j conditions ≡ true
-front_one_more conditions message n field is before here j low high =
+pub front_one_more : (chosen : ℕ → Bool) (message : List ℕ) (n field : ℕ) → field ≡ n + 1
+    → ((j : ℕ) → 1 ≤ j → j ≤ n → chosen j ≡ true) → chosen field ≡ true
+    → (j : ℕ) → 1 ≤ j → j ≤ n + 1 → chosen j ≡ true
+front_one_more chosen message n field is before here j low high =
     ⊎_elim
-    (λ (same : j ≡ field). ap (λ k. fulfils_all message k conditions) same ∙ here)
+    (λ (same : j ≡ field). ap (λ k. chosen k) same ∙ here)
     (λ (other : j ≢ field). before j low (omega (arith, other)))
     (cases_eq j field)
 
 -- whether a field is written
-pub is_single : (conditions : List Wanted) (message : List ℕ) (i : ℕ) → fulfils_all message i conditions ≡ true → single_if conditions message i ≡ single_of message i
-is_single conditions message i here = ap (λ b. choose b (λ _. single_of message i) (λ _. [])) here
+pub is_single : (chosen : ℕ → Bool) (message : List ℕ) (i : ℕ) → chosen i ≡ true → single_chosen chosen message i ≡ single_of message i
+is_single chosen message i here = ap (λ b. choose b (λ _. single_of message i) (λ _. [])) here
 
 -- whether the message is written whole
-pub is_whole : (conditions : List Wanted) (message : List ℕ) → all_fulfil conditions message ≡ true → filtered conditions message ≡ message
-is_whole conditions message all = ap (λ b. choose b (λ _. message) (λ _. texts_from (single_if conditions message) (field_count message) 1)) all
+pub is_whole : (chosen : ℕ → Bool) (message : List ℕ) → all_chosen chosen message ≡ true → chosen_of chosen message ≡ message
+is_whole chosen message all = ap (λ b. choose b (λ _. message) (λ _. texts_from (single_chosen chosen message) (field_count message) 1)) all
 
-pub is_parted : (conditions : List Wanted) (message : List ℕ) → all_fulfil conditions message ≡ false
-    → filtered conditions message ≡ texts_from (single_if conditions message) (field_count message) 1
-is_parted conditions message some = ap (λ b. choose b (λ _. message) (λ _. texts_from (single_if conditions message) (field_count message) 1)) some
+pub is_parted : (chosen : ℕ → Bool) (message : List ℕ) → all_chosen chosen message ≡ false
+    → chosen_of chosen message ≡ texts_from (single_chosen chosen message) (field_count message) 1
+is_parted chosen message some = ap (λ b. choose b (λ _. message) (λ _. texts_from (single_chosen chosen message) (field_count message) 1)) some
 
 -- a field more was written
 pub text_written : (a b c : Option (List ℕ)) (text : ℕ → List ℕ) (k field : ℕ) → field ≡ 1 + k → Appends a b (texts_from text k 1)

@@ -1,7 +1,7 @@
 -- What comes of a message that is kept by its cause, or for which there is no memory.
-use Rattle.std.proofs.Common.{◌≡◌, ℕ, Bool, Option, Some, option_map, List, [], refl, sym, ap, subst}
+use Rattle.std.proofs.Common.{◌≡◌, ℕ, Bool, Option, Some, None, option_map, List, [], refl, sym, ap, subst}
 use Rattle.grib_reasons.specs.declared.cause.Cause.{Cause}
-use Rattle.grib_reasons.specs.declared.cause.Cause.TheVariants.{Lost, Demoted}
+use Rattle.grib_reasons.specs.declared.cause.Cause.TheVariants.{Lost, Demoted, KeyRange1}
 use Rattle.grib_reasons.specs.declared.demotion.Demotion.{Demotion}
 use Rattle.grib_reasons.specs.declared.loss.Loss.{Loss}
 use Rattle.grib_demote.specs.Answered.{IsDemoteFault}
@@ -21,12 +21,17 @@ use Rattle.grib_reorder.specs.declared.fault.RescanFault.TheVariants as unedited
 use Rattle.grib_select.specs.Changed.{IsSetFault}
 use Rattle.grib_select.specs.declared.changing.SetFault.{SetFault}
 use Rattle.grib_select.specs.declared.changing.SetFault.TheVariants as unset
+use Rattle.std.specs.Option.{option_or}
+use Rattle.grib1_sections.specs.declared.key.Key1.{Key1}
+use Rattle.grib1_select.specs.Changed.{IsSetFault1}
+use Rattle.grib1_select.specs.declared.changing.SetFault1.{SetFault1}
+use Rattle.grib1_select.specs.declared.changing.SetFault1.TheVariants as unset1
 use Rattle.grib_stream.specs.Acts.{world}
 use Rattle.grib_stream.proofs.Worlds.{did_none}
 use Rattle.grib_command.specs.declared.answered.Answered.{Answered}
 use Rattle.grib_command.specs.declared.answered.Answered.TheVariants.{Whole, Kept, WriteFault, ShelfFault, Memory}
 use Rattle.grib_command.specs.Answering.{AnswersByOutput, acts_given}
-use Rattle.grib_edit.specs.Unchanged.{answered_by, answered_unset, answered_lost, answered_undemoted, IsKept}
+use Rattle.grib_edit.specs.Unchanged.{answered_by, answered_unset, answered_unset1, answered_lost, answered_undemoted, IsKept}
 use Rattle.grib_command.specs.Command.{given_unless}
 use Rattle.grib_edit.specs.Repacking.{cause_of}
 use Rattle.grib_edit.specs.Rescanning.{edit_cause, answered_unedited}
@@ -91,3 +96,17 @@ module _ {Sink : Type 0} (contents : Sink → Option (List ℕ)) (faults : Sink 
       → AnswersByOutput contents faults settled answered m (given_unless cause m octets) a a
   by_cause answered own cause m octets a same is =
       subst (λ r. AnswersByOutput contents faults settled r m (given_unless cause m octets) a a) (sym same) (kept own cause m octets a is)
+
+-- ---- a fault of a change, before a date
+
+pub fault_first : (first : Option Cause) (later : Option Cause) (answered : Answered) → IsKept first answered → IsKept (option_or first later) answered
+fault_first (Some cause) later answered is = is
+fault_first None later (Whole written) is = absurd is
+fault_first None later (Kept own) is = let no : ⊥ = cc in absurd no
+fault_first None later WriteFault is = absurd is
+fault_first None later ShelfFault is = absurd is
+fault_first None later Memory is = tt
+
+pub not_set1 : (found : Option Key1) (fault : SetFault1) → IsSetFault1 found fault → IsKept (option_map KeyRange1 found) (answered_unset1 fault)
+not_set1 found (unset1.KeyRange key) is = ap (option_map KeyRange1) is
+not_set1 found unset1.Memory is = tt

@@ -1,10 +1,8 @@
--- How many fields fulfil conditions before the first that does not.
-use Rattle.std.specs.Prelude.{◌≡◌, ℕ, ◌+◌, ◌<◌, ◌≤◌, true, false, List}
-use Rattle.grib_keys.specs.declared.wanted.Wanted.{Wanted}
-use Rattle.grib_select.specs.Values.{fulfils_all}
+-- How many fields are chosen before the first that is not.
+use Rattle.std.specs.Prelude.{◌≡◌, ℕ, ◌+◌, ◌<◌, ◌≤◌, Bool, true, false, List}
 use Rattle.grib2_message.specs.Fields.{field_count}
 
-pub record IsFront (conditions : List Wanted) (message : List ℕ) (front : ℕ) : Type 0 where
+pub record IsFront (chosen : ℕ → Bool) (message : List ℕ) (front : ℕ) : Type 0 where
   pub within : front ≤ field_count message
-  pub fulfil : (field : ℕ) → 1 ≤ field → field ≤ front → fulfils_all message field conditions ≡ true
-  pub next : front < field_count message → fulfils_all message (front + 1) conditions ≡ false
+  pub fulfil : (field : ℕ) → 1 ≤ field → field ≤ front → chosen field ≡ true
+  pub next : front < field_count message → chosen (front + 1) ≡ false

@@ -2,9 +2,13 @@ pub mod FieldOctets
 pub mod Parts
 pub mod PartOctets
 pub mod Shelving
+pub mod Choosing
 pub mod Filtering
+pub mod FilteringNamed
+pub mod Filtering1
 pub mod Splitting
 pub mod Setting
+pub mod Setting1
 pub mod Repacking
 pub mod Least
 pub mod Rescanning

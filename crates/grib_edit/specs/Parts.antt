@@ -30,6 +30,10 @@ first_parts out before message n = map (part_of out before message) (range_with_
 abbrev pub parts_of : List ℕ → ℕ → List ℕ → List Part
 parts_of out before message = first_parts out before message (field_count message)
 
+-- a message of edition 1 as it stands, the one field that it has
+abbrev pub parts1_of : List ℕ → ℕ → List ℕ → List Part
+parts1_of out before message = part (part_name out (before + 1)) message ∷ []
+
 -- octets are added at the end of what stands under a name
 abbrev pub adds : List ℕ → List ℕ → List Act
 adds name [] = []

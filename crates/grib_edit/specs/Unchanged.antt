@@ -11,6 +11,8 @@ use Rattle.grib_demote.specs.declared.demotion.DemoteFault.{DemoteFault}
 use Rattle.grib_demote.specs.declared.demotion.DemoteFault.TheVariants as undemoted
 use Rattle.grib_select.specs.declared.changing.SetFault.{SetFault}
 use Rattle.grib_select.specs.declared.changing.SetFault.TheVariants as unset
+use Rattle.grib1_select.specs.declared.changing.SetFault1.{SetFault1}
+use Rattle.grib1_select.specs.declared.changing.SetFault1.TheVariants as unset1
 use Rattle.grib_command.specs.declared.answered.Answered.{Answered}
 use Rattle.grib_command.specs.declared.answered.Answered.TheVariants.{Whole, Kept, WriteFault, ShelfFault, Memory}
 
@@ -27,6 +29,11 @@ abbrev pub answered_unset : SetFault → Answered
 answered_unset (unset.KeyRange key) = Kept (causes.KeyRange key)
 answered_unset (unset.KeyAbsent field key) = Kept (causes.KeyAbsent field key)
 answered_unset unset.Memory = Memory
+
+-- what comes of a message of edition 1 in which no key is set
+abbrev pub answered_unset1 : SetFault1 → Answered
+answered_unset1 (unset1.KeyRange key) = Kept (causes.KeyRange1 key)
+answered_unset1 unset1.Memory = Memory
 
 -- what comes of a message that is not migrated
 abbrev pub answered_lost : MigrateFault → Answered

@@ -5,7 +5,9 @@ ghost use Rattle.grib_edit.specs.Unchanged.{answered_unset};
 ghost use Rattle.grib_command.specs.Jobs.{CanChange};
 
 use crate::changing::Changer;
-use grib_command::{Answered, write_counted, written};
+use crate::dated::write_dated;
+use grib_command::Answered;
+use grib_dates::{Dates, is_valid_time2};
 use grib_io::Sink;
 use grib_select::{Change, SetFault, set_keys};
 use grib_stream::Cause;
@@ -17,19 +19,26 @@ use std::alloc::Global;
 pub struct Setting<'a> {
     /// The keys with their new values.
     pub changes: &'a [Change],
+    /// Which reference times a message may get.
+    pub dates: Dates,
     pub ghost changes_stand: { CanChange changes.now },
 }
 
 impl Changer for Setting<'_> {
     ghost use Rattle.grib_edit.specs.Setting.{set_command, set_lawful};
 
-    ghost gives = { λ setting. (set_command setting.changes.now).second };
+    ghost gives = { λ setting. (set_command setting.dates setting.changes.now).second };
 
-    ghost lawful = { λ setting. set_lawful setting.changes.now setting.changes_stand };
+    ghost lawful = { λ setting. set_lawful setting.dates setting.changes.now setting.changes_stand };
 
     fn change<T: Sink>(&self, alloc: Global, message: &Message<'_>, output: &mut T) -> Answered {
+        // That the message is accepted bounds the changed one.
+        let _accepted = message.octets();
         match set_keys(alloc, message, self.changes) {
-            Ok(changed) => written(write_counted(output, changed.as_slice())),
+            Ok(changed) => {
+                let octets = changed.as_slice();
+                write_dated(self.dates, is_valid_time2(octets), octets, output)
+            }
             Err(fault) => unset(fault),
         }
     }

@@ -8,7 +8,7 @@ ghost use Rattle.grib_select.specs.Single.{single_of};
 ghost use Rattle.grib_stream.specs.Task.{Gives};
 ghost use Rattle.grib_command.specs.Answering.{AnswersByShelf};
 ghost use Rattle.grib_edit.specs.Parts as parts;
-ghost use Rattle.grib_edit.specs.Parts.{part, part_of, parts_of, puts, puts_all, octets_within};
+ghost use Rattle.grib_edit.specs.Parts.{part, part_of, parts_of, parts1_of, puts, puts_all, octets_within};
 ghost use Rattle.grib_edit.specs.Shelving.{Shelves};
 
 use grib_base::MOST_OCTETS;
@@ -26,23 +26,28 @@ use std::alloc::{AllocError, Global};
 pub struct Splitting<'a> {
     /// The name on the shelf before the numbers of the fields.
     pub name: &'a Name,
+    /// Whether messages of edition 1 are put there too.
+    pub edition_1: bool,
 }
 
 impl Answerer for Splitting<'_> {
     ghost use Rattle.grib_edit.specs.Splitting.{split_command, split_lawful};
 
-    ghost definition = { λ splitting. split_command splitting.name.now };
+    ghost definition = { λ splitting. split_command splitting.edition_1 splitting.name.now };
 
-    ghost lawful = { λ splitting. split_lawful splitting.name.now };
+    ghost lawful = { λ splitting. split_lawful splitting.edition_1 splitting.name.now };
 
     fn first<T: Sink, H: Shelf>(
         &self,
-        _alloc: Global,
-        _place: &Place,
-        _message: &Message1<'_>,
+        alloc: Global,
+        place: &Place,
+        message: &Message1<'_>,
         _output: &mut T,
-        _shelf: &mut H,
+        shelf: &mut H,
     ) -> Answered {
+        if self.edition_1 {
+            return put_whole(alloc, self.name, place.fields, message, shelf);
+        }
         Answered::Kept(Cause::EditionOne)
     }
 
@@ -75,6 +80,45 @@ impl Answerer for Splitting<'_> {
     fn ending(&self) -> Ending {
         Ending::Written
     }
+}
+
+/// Puts a message of edition 1 on the shelf, under the name with the number of its field in the whole input, in which
+/// this many fields stand before it.
+fn put_whole<H: Shelf>(
+    alloc: Global,
+    name: &Name,
+    before: u64,
+    message: &Message1<'_>,
+    shelf: &mut H,
+) -> Answered
+    requires { before ≤ 2 ^ 41 }
+    ensures { (m : ℕ) → AnswersByShelf H.contents H.faults result m
+        (Gives (puts_all (parts1_of name.now before message.now))
+        (octets_within (parts1_of name.now before message.now)))
+        shelf.old shelf.new }
+{
+    match put_message1(alloc, name, before, message, shelf) {
+        Ok(()) => Answered::Whole(message.length()),
+        Err(Stop::Failed) => Answered::ShelfFault,
+        Err(Stop::Memory) => Answered::Memory,
+    }
+}
+
+/// Puts a message of edition 1. Without memory no name is made.
+fn put_message1<H: Shelf>(
+    alloc: Global,
+    name: &Name,
+    before: u64,
+    message: &Message1<'_>,
+    shelf: &mut H,
+) -> Result<(), Stop>
+    requires { before ≤ 2 ^ 41 }
+    ensures shelved { Shelves result (H.contents shelf.old) (H.contents shelf.new)
+        (puts (part (parts.part_name name.now (before + 1)) message.now)) }
+    ensures counted { CountsStops result (H.faults shelf.old) (H.faults shelf.new) }
+{
+    let text = part_name(alloc, name, before + 1)?;
+    put(text.as_str(), message.octets(), shelf)
 }
 
 /// Puts each field of a message on the shelf, as a message of its own under the name with the number of the

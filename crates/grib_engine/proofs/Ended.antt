@@ -8,8 +8,8 @@ use Rattle.std.specs.List.{concat}
 use Rattle.std.proofs.KnownBytes.{Appends-trans}
 use Rattle.grib_io.specs.Outside.{AppendsFront, Unfinished}
 use Rattle.grib_io.specs.Shelves.{Held, Stays}
-use Rattle.grib_table.specs.declared.both.Tables.{Tables}
-use Rattle.grib_table.specs.Both.{Both, BothGood, ParametersRefused, SurfacesRefused, both}
+use Rattle.grib_table.specs.declared.together.Tables.{Tables}
+use Rattle.grib_table.specs.Together.{Together, AllGood, TableRefused, SurfacesRefused, together}
 use Rattle.grib_stream.specs.declared.outcome.Outcome.{Outcome}
 use Rattle.grib_stream.specs.declared.outcome.Outcome.TheVariants.{ReadFault, WriteFault, ShelfFault, Memory, InputTooLong}
 use Rattle.grib_stream.specs.Acts.{Did}
@@ -276,17 +276,17 @@ pub if_told : {P Q : List ℕ → Type 0} (left : Option (List ℕ)) → ((input
 if_told None map held = tt
 if_told (Some input) map held = map input held
 
-if_tabled : (commands : Tables → Command) (P Q : Command → Type 0) (A B : Stated → Type 0) → ((command : Command) → P command → Q command) → ((stated : Stated) → A stated → B stated) → (t : Both)
+if_tabled : (commands : Tables → Command) (P Q : Command → Type 0) (A B : Stated → Type 0) → ((command : Command) → P command → Q command) → ((stated : Stated) → A stated → B stated) → (t : Together)
     → IfTabled commands P A t → IfTabled commands Q B t
-if_tabled commands P Q A B map at_once (BothGood tables) held = map (commands tables) held
-if_tabled commands P Q A B map at_once (ParametersRefused refusal) held = at_once _ held
+if_tabled commands P Q A B map at_once (AllGood tables) held = map (commands tables) held
+if_tabled commands P Q A B map at_once (TableRefused refusal) held = at_once _ held
 if_tabled commands P Q A B map at_once (SurfacesRefused refusal) held = at_once _ held
 
 if_asked : (work : Work) (names : Option Held) (P Q : Command → Type 0) (A B : Stated → Type 0) → ((command : Command) → P command → Q command) → ((stated : Stated) → A stated → B stated)
     → IfAsked work names P A → IfAsked work names Q B
 if_asked (Reads command) names P Q A B map at_once held = map command held
 if_asked (Makes stated) names P Q A B map at_once held = at_once stated held
-if_asked (ReadsTables params surfaces commands) names P Q A B map at_once (texts, stood, held) = (texts, stood, if_tabled commands P Q A B map at_once (both surfaces texts) held)
+if_asked (ReadsTables asked commands) names P Q A B map at_once (texts, stood, held) = (texts, stood, if_tabled commands P Q A B map at_once (together asked texts) held)
 
 module _ (takes_memory : Bool) (policy : Policy) (own : Outcome) (note : List ℕ) (outcome : Outcome) (before mid now : Seen) (ended : Ended takes_memory own note outcome mid now) where
   -- what holds of each answer, by what was done of it

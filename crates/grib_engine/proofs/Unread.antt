@@ -3,11 +3,11 @@ use Rattle.std.proofs.Common.{◌≡◌, ◌≢◌, ℕ, Bool, true, false, IfSo
 use Rattle.std.proofs.lemmas.Bool.{false≢true}
 use Rattle.std.proofs.KnownBytes.{Appends-nil}
 use Rattle.grib_io.specs.Shelves.{Held, Stays}
-use Rattle.grib_table.specs.declared.both.Tables.{Tables}
+use Rattle.grib_table.specs.declared.together.Tables.{Tables}
 use Rattle.grib_table.specs.declared.stop.TablesStop.{TablesStop}
 use Rattle.grib_table.specs.declared.stop.TablesStop.TheVariants as stops
-use Rattle.grib_table.specs.Both.{Both, BothGood, ParametersRefused, SurfacesRefused, Texts, both, BothStood, StoodWhere, CountsTablesStop}
-use Rattle.grib_table.specs.Both as reads
+use Rattle.grib_table.specs.Together.{Asked, Together, AllGood, TableRefused, SurfacesRefused, Texts, together, AllStood, StoodWhere, CountsTablesStop}
+use Rattle.grib_table.specs.Together as reads
 use Rattle.grib_stream.specs.declared.outcome.Outcome.{Outcome}
 use Rattle.grib_stream.specs.declared.outcome.Outcome.TheVariants as outcomes
 use Rattle.grib_stream.specs.declared.outcome.Outcome.TheVariants.{ReadFault, WriteFault, ShelfFault, Memory}
@@ -19,12 +19,15 @@ use Rattle.grib_items.specs.declared.policy.Policy.{Policy}
 use Rattle.grib_items.specs.Deeds.{deeds, no_deeds, then, Done}
 use Rattle.grib_items.specs.Run.{answer_of, CountsOne}
 use Rattle.grib_items.proofs.Effects.{done_then, front_whole, front_of_nothing}
+use Rattle.grib_text.specs.declared.column.LineForm.{LineForm}
+use Rattle.grib_text.specs.declared.column.Column.{Column}
+use Rattle.grib_command.specs.declared.job.Job.TheVariants.{Lines}
 use Rattle.grib_command.specs.Command.{Command}
 use Rattle.grib_command.specs.Outcomes.{note_of}
 use Rattle.grib_run_spec.specs.Seen.{Seen, world_of, outside_of, faults_of}
 use Rattle.grib_run_spec.specs.Stated.{IfTabled, IfAsked, deeds_of, plan_by, stated_to}
 use Rattle.grib_run_spec.specs.Serving.{NotedBehind, NotesSome, IsCounted, Gives, Reading, AtOnce, Serves, IfUnread}
-use Rattle.grib_run_spec.specs.Tasks.{Stated, Work, Reads, Makes, ReadsTables, ends_at_once}
+use Rattle.grib_run_spec.specs.Tasks.{Stated, Work, Reads, Makes, ReadsTables, IfHears, ends_at_once}
 use Rattle.grib_engine.specs.Untabled.{outcome_untabled}
 use Rattle.grib_engine.proofs.Broken.{broken_early}
 use Rattle.grib_engine.proofs.Ended.{Reached, Answers, States, Ran, if_told}
@@ -39,11 +42,12 @@ stands_where names None = (None, tt)
 stands_where None (Some name) = (None, tt)
 stands_where (Some held) (Some name) = (held name, refl)
 
-stands : (names : Option Held) (params : List ℕ) (surfaces : Option (List ℕ)) → (texts : Texts) × BothStood names params surfaces texts
-stands names params surfaces =
-    let first = stands_where names (Some params) in
-    let second = stands_where names surfaces in
-    (record { parameters = first.0; surfaces = second.0 }, (first.1, second.1))
+stands : (names : Option Held) (asked : Asked) → (texts : Texts) × AllStood names asked texts
+stands names asked =
+    let first = stands_where names asked.parameters in
+    let second = stands_where names asked.surfaces in
+    let third = stands_where names asked.names in
+    (record { parameters = first.0; surfaces = second.0; names = third.0 }, (first.1, (second.1, third.1)))
 
 -- a shelf that keeps what it holds
 did_stays : (output : Option (List ℕ)) (names names_now : Option Held) → Stays names names_now → Did (world output names) (world output names_now) []
@@ -94,18 +98,18 @@ module _ (policy : Policy) (before : Seen) (names : Option Held) (faults : ℕ) 
     end = λ whole. absurd (false≢true (sym (broken_early own is) ∙ whole));
   }
 
-  broken_tabled : (own : Outcome) → is_broken own ≡ true → own ≢ ReadFault → (commands : Tables → Command) (t : Both)
+  broken_tabled : (own : Outcome) → is_broken own ≡ true → own ≢ ReadFault → (commands : Tables → Command) (t : Together)
       → IfTabled commands (Answers policy own (note_of own) before same) (States own (note_of own) before same) t
-  broken_tabled own is other commands (BothGood tables) = broken_reading own is other (commands tables)
-  broken_tabled own is other commands (ParametersRefused refusal) = (broken own is (ends_at_once (outcomes.TableRefused refusal)), other)
+  broken_tabled own is other commands (AllGood tables) = broken_reading own is other (commands tables)
+  broken_tabled own is other commands (TableRefused refusal) = (broken own is (ends_at_once (outcomes.TableRefused refusal)), other)
   broken_tabled own is other commands (SurfacesRefused refusal) = (broken own is (ends_at_once (outcomes.SurfacesRefused refusal)), other)
 
   broken_asked : (own : Outcome) → is_broken own ≡ true → own ≢ ReadFault → (work : Work)
       → IfAsked work before.names (Answers policy own (note_of own) before same) (States own (note_of own) before same)
   broken_asked own is other (Reads command) = broken_reading own is other command
   broken_asked own is other (Makes stated) = (broken own is stated, other)
-  broken_asked own is other (ReadsTables params surfaces commands) =
-      let stand = stands before.names params surfaces in (stand.0, stand.1, broken_tabled own is other commands (both surfaces stand.0))
+  broken_asked own is other (ReadsTables asked commands) =
+      let stand = stands before.names asked in (stand.0, stand.1, broken_tabled own is other commands (together asked stand.0))
 
   -- what is stated at once
   at_once : (own : Outcome) → is_broken own ≡ false → Reached (ends_at_once own) own (note_of own) before same
@@ -143,28 +147,28 @@ module _ (policy : Policy) (before : Seen) (names : Option Held) (faults : ℕ) 
     shelf_calm = λ other. absurd (other refl);
   }
 
-  refused_asked : (params : List ℕ) (surfaces : Option (List ℕ)) (commands : Tables → Command) (own : Outcome) (what : Both)
-      → IfTabled commands (Answers policy own (note_of own) before same) (States own (note_of own) before same) what → reads.StandsAs before.names params surfaces what
-      → IfAsked (ReadsTables params surfaces commands) before.names (Answers policy own (note_of own) before same) (States own (note_of own) before same)
-  refused_asked params surfaces commands own what states (texts, stood, is) =
+  refused_asked : (asked : Asked) (commands : Tables → Command) (own : Outcome) (what : Together)
+      → IfTabled commands (Answers policy own (note_of own) before same) (States own (note_of own) before same) what → reads.StandsAs before.names asked what
+      → IfAsked (ReadsTables asked commands) before.names (Answers policy own (note_of own) before same) (States own (note_of own) before same)
+  refused_asked asked commands own what states (texts, stood, is) =
       (texts, stood, subst (IfTabled commands (Answers policy own (note_of own) before same) (States own (note_of own) before same)) (sym is) states)
 
-  untabled_asked : (params : List ℕ) (surfaces : Option (List ℕ)) (commands : Tables → Command) (stop : TablesStop) → reads.ReadsTables (Err stop) before.names params surfaces
-      → IfAsked (ReadsTables params surfaces commands) before.names (Answers policy (outcome_untabled stop) (note_of (outcome_untabled stop)) before same)
+  untabled_asked : (asked : Asked) (commands : Tables → Command) (stop : TablesStop) → reads.ReadsTables (Err stop) before.names asked
+      → IfAsked (ReadsTables asked commands) before.names (Answers policy (outcome_untabled stop) (note_of (outcome_untabled stop)) before same)
       (States (outcome_untabled stop) (note_of (outcome_untabled stop)) before same)
-  untabled_asked params surfaces commands (stops.Refused refusal) read =
+  untabled_asked asked commands (stops.Refused refusal) read =
       let own = outcomes.TableRefused refusal in
-      refused_asked params surfaces commands own (ParametersRefused refusal) (at_once own refl, λ e. cc) read
-  untabled_asked params surfaces commands (stops.SurfacesRefused refusal) read =
+      refused_asked asked commands own (TableRefused refusal) (at_once own refl, λ e. cc) read
+  untabled_asked asked commands (stops.SurfacesRefused refusal) read =
       let own = outcomes.SurfacesRefused refusal in
-      refused_asked params surfaces commands own (SurfacesRefused refusal) (at_once own refl, λ e. cc) read
-  untabled_asked params surfaces commands stops.ShelfFault read = broken_asked ShelfFault refl (λ e. cc) (ReadsTables params surfaces commands)
-  untabled_asked params surfaces commands stops.Memory read = broken_asked Memory refl (λ e. cc) (ReadsTables params surfaces commands)
+      refused_asked asked commands own (SurfacesRefused refusal) (at_once own refl, λ e. cc) read
+  untabled_asked asked commands stops.ShelfFault read = broken_asked ShelfFault refl (λ e. cc) (ReadsTables asked commands)
+  untabled_asked asked commands stops.Memory read = broken_asked Memory refl (λ e. cc) (ReadsTables asked commands)
 
-  pub untabled : (params : List ℕ) (surfaces : Option (List ℕ)) (commands : Tables → Command) (stop : TablesStop) (own : Outcome) → own ≡ outcome_untabled stop
-      → reads.ReadsTables (Err stop) before.names params surfaces → CountsTablesStop stop before.shelf_faults faults → Ran (ReadsTables params surfaces commands) policy own (note_of own) before same
-  untabled params surfaces commands stop own is read counts = subst (λ o. Ran (ReadsTables params surfaces commands) policy o (note_of o) before same) (sym is) record {
-    answer = untabled_asked params surfaces commands stop read;
+  pub untabled : (asked : Asked) (commands : Tables → Command) (stop : TablesStop) (own : Outcome) → own ≡ outcome_untabled stop
+      → reads.ReadsTables (Err stop) before.names asked → CountsTablesStop stop before.shelf_faults faults → Ran (ReadsTables asked commands) policy own (note_of own) before same
+  untabled asked commands stop own is read counts = subst (λ o. Ran (ReadsTables asked commands) policy o (note_of o) before same) (sym is) record {
+    answer = untabled_asked asked commands stop read;
     counts = stopped stop counts;
     unfinished = λ all. all;
     notes_unfinished = λ all. all;
@@ -204,7 +208,7 @@ ended_at_once own policy before unbroken =
 
 -- ---- by tables that were read
 
-module _ (takes_memory : Bool) (params : List ℕ) (surfaces : Option (List ℕ)) (commands : Tables → Command) (policy : Policy) (outcome : Outcome) (before now : Seen) (names : Option Held) (stays : Stays before.names names) where
+module _ (takes_memory : Bool) (asked : Asked) (commands : Tables → Command) (policy : Policy) (outcome : Outcome) (before now : Seen) (names : Option Held) (stays : Stays before.names names) where
   abbrev mid : Seen
   mid = shelved before names before.shelf_faults
 
@@ -240,8 +244,8 @@ module _ (takes_memory : Bool) (params : List ℕ) (surfaces : Option (List ℕ)
         end = reading.end;
       }
 
-  pub by_tables : (read : Tables) (faults : ℕ) → reads.ReadsTables (Ok read) before.names params surfaces → faults ≡ before.shelf_faults → now.names ≡ names
-      → Serves takes_memory (Reads (commands read)) policy outcome (shelved before names faults) now → Serves takes_memory (ReadsTables params surfaces commands) policy outcome before now
+  pub by_tables : (read : Tables) (faults : ℕ) → reads.ReadsTables (Ok read) before.names asked → faults ≡ before.shelf_faults → now.names ≡ names
+      → Serves takes_memory (Reads (commands read)) policy outcome (shelved before names faults) now → Serves takes_memory (ReadsTables asked commands) policy outcome before now
   by_tables read faults (texts, stood, is) same kept ran_so =
       let ran = subst (λ n. Serves takes_memory (Reads (commands read)) policy outcome (shelved before names n) now) same ran_so in
       let tells = λ (Holds : Stated → Type 0) (holds : IfSome before.left (λ input. Holds (stated_to (commands read) policy input))).
@@ -264,17 +268,22 @@ module _ (takes_memory : Bool) (params : List ℕ) (surfaces : Option (List ℕ)
 
 -- ---- the input
 
-if_unread : (commands : Tables → Command) (P : Type 0) (t : Both) → P → IfTabled commands (λ command. Unit {0}) (λ stated. P) t
-if_unread commands P (BothGood tables) held = tt
-if_unread commands P (ParametersRefused refusal) held = held
+if_unread : (commands : Tables → Command) (P : Type 0) (t : Together) → P → IfTabled commands (λ command. Unit {0}) (λ stated. P) t
+if_unread commands P (AllGood tables) held = tt
+if_unread commands P (TableRefused refusal) held = held
 if_unread commands P (SurfacesRefused refusal) held = held
 
 -- no input was read
-pub left_alone : (params : List ℕ) (surfaces : Option (List ℕ)) (commands : Tables → Command) (names : Option Held) (P : Type 0) → P → IfUnread (ReadsTables params surfaces commands) names P
-left_alone params surfaces commands names P held = let stand = stands names params surfaces in (stand.0, stand.1, if_unread commands P (both surfaces stand.0) held)
+pub left_alone : (asked : Asked) (commands : Tables → Command) (names : Option Held) (P : Type 0) → P → IfUnread (ReadsTables asked commands) names P
+left_alone asked commands names P held = let stand = stands names asked in (stand.0, stand.1, if_unread commands P (together asked stand.0) held)
 
 -- the tables are good, so that nothing is claimed
-pub left_open : (params : List ℕ) (surfaces : Option (List ℕ)) (commands : Tables → Command) (names : Option Held) (P : Type 0) (read : Tables) → reads.ReadsTables (Ok read) names params surfaces
-    → IfUnread (ReadsTables params surfaces commands) names P
-left_open params surfaces commands names P read (texts, stood, is) =
+pub left_open : (asked : Asked) (commands : Tables → Command) (names : Option Held) (P : Type 0) (read : Tables) → reads.ReadsTables (Ok read) names asked
+    → IfUnread (ReadsTables asked commands) names P
+left_open asked commands names P read (texts, stood, is) =
     (texts, stood, subst (IfTabled commands (λ command. Unit {0}) (λ stated. P)) (sym is) tt)
+
+-- lines with columns are not printed by what is heard
+pub lines_unheard : (form : LineForm) (columns : List Column) (names : Option (List ℕ)) (P : Type 0) → IfHears (Lines form columns names) P
+lines_unheard form columns None P = λ hears. absurd (false≢true hears)
+lines_unheard form columns (Some name) P = tt

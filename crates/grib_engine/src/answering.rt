@@ -10,12 +10,14 @@ ghost use Rattle.grib_run_spec.specs.Tasks.{IfReads, work_of};
 use grib_command::{Answered, ByOutput, Job};
 use grib_dispatch::{Held, answer_held};
 use grib_edit::{
-    Changing, Demoting, Filtering, Migrating, OfValues, Repacking, Rescanning, Setting, Shrinking,
-    Splitting,
+    Changing, Demoting, Filtering, Filtering1, FilteringNamed, Migrating, OfValues, Repacking,
+    Rescanning, Setting, Setting1, Shrinking, Splitting,
 };
 use grib_io::{Shelf, Sink};
 use grib_reorder::GridEdit;
-use grib_report::{Checking, Dumping, Keying, Listing, Printing, PrintingValues, Summing, Valuing};
+use grib_report::{
+    Checking, Dumping, Keying, Lining, Listing, Printing, PrintingValues, Summing, Valuing,
+};
 use grib_stream::Place;
 use grib_table::Tables;
 use grib_values::Arraying;
@@ -58,6 +60,33 @@ pub fn answer_message<T: Sink, H: Shelf>(
             output,
             shelf,
         ),
+        Job::Lines {
+            form,
+            columns,
+            names: None,
+        } => {
+            let lining = ByOutput(Printing(Lining {
+                form: *form,
+                columns: columns.as_slice(),
+                names: None,
+            }));
+            answer_held(&lining, alloc, place, held, output, shelf)
+        }
+        Job::Lines {
+            form,
+            columns,
+            names: Some(_),
+        } => match tables {
+            Some(tables) => {
+                let lining = ByOutput(Printing(Lining {
+                    form: *form,
+                    columns: columns.as_slice(),
+                    names: Some(&tables.names),
+                }));
+                answer_held(&lining, alloc, place, held, output, shelf)
+            }
+            None => Answered::Whole(0),
+        },
         Job::Stats => answer_held(
             &ByOutput(PrintingValues(Summing)),
             alloc,
@@ -111,17 +140,40 @@ pub fn answer_message<T: Sink, H: Shelf>(
                 shelf,
             )
         }
-        Job::Split(name) => { answer_held(&Splitting { name }, alloc, place, held, output, shelf) }
-        Job::Set(changes) => {
-            let changes = changes.as_slice();
-            answer_held(
-                &ByOutput(Changing(Setting { changes })),
-                alloc,
-                place,
-                held,
-                output,
-                shelf,
-            )
+        Job::FilterNamed {
+            conditions,
+            wanted,
+            ..
+        } => match tables {
+            Some(tables) => {
+                let filtering = ByOutput(Changing(FilteringNamed {
+                    conditions: conditions.as_slice(),
+                    wanted: wanted.as_slice(),
+                    names: &tables.names,
+                }));
+                answer_held(&filtering, alloc, place, held, output, shelf)
+            }
+            None => Answered::Whole(0),
+        },
+        Job::Filter1(conditions) => {
+            let conditions = conditions.as_slice();
+            let filtering = ByOutput(Filtering1 { conditions });
+            answer_held(&filtering, alloc, place, held, output, shelf)
+        }
+        Job::Split { name, edition_1 } => {
+            let edition_1 = *edition_1;
+            let splitting = Splitting { name, edition_1 };
+            answer_held(&splitting, alloc, place, held, output, shelf)
+        }
+        Job::Set { changes, dates } => {
+            let (changes, dates) = (changes.as_slice(), *dates);
+            let setting = ByOutput(Changing(Setting { changes, dates }));
+            answer_held(&setting, alloc, place, held, output, shelf)
+        }
+        Job::Set1 { changes, dates } => {
+            let (changes, dates) = (changes.as_slice(), *dates);
+            let setting = ByOutput(Setting1 { changes, dates });
+            answer_held(&setting, alloc, place, held, output, shelf)
         }
         Job::Repack(target) => {
             let target = *target;

@@ -8,23 +8,25 @@ ghost use Rattle.grib_dispatch.specs.Hearing.{is_second};
 ghost use Rattle.grib_io.specs.Shelves.{Stays};
 ghost use Rattle.grib_run_spec.specs.Seen.{seen};
 ghost use Rattle.grib_run_spec.specs.Serving.{Serves, IfUnread};
-ghost use Rattle.grib_run_spec.specs.Tasks.{Reads, ReadsTables as AsksTables, demoting, migrating};
-ghost use Rattle.grib_table.specs.Both as both;
-ghost use Rattle.grib_table.specs.Both.{CountsTables};
+ghost use Rattle.grib_run_spec.specs.Tasks.{Reads, ReadsTables as AsksTables, by_names, by_parameters, by_profile, demoting, filtering_named, has_shelf, lines_work, lining, migrating};
+ghost use Rattle.grib_table.specs.Together as specs;
+ghost use Rattle.grib_table.specs.Together.{CountsTables};
 ghost use Rattle.grib_engine.specs.Untabled.{outcome_untabled};
 
 use crate::closing::close_with_note;
 use crate::ending::close_at_end;
-use grib_base::Profile;
-use grib_command::{Answerer, ByOutput, Name};
+use grib_base::{List, Profile};
+use grib_command::{Answerer, ByOutput, Conditions, Name};
 use grib_dispatch::Answering;
-use grib_edit::{Demoting, Migrating};
+use grib_edit::{Changing, Demoting, FilteringNamed, Migrating};
 use grib_io::{Shelf, Sink, Source};
 use grib_items::{Policy, answer_items};
 use grib_migrate::Local;
 use grib_params::TableMatch;
+use grib_report::{Lining, Printing};
 use grib_stream::{LIMIT, Outcome};
 use grib_table::{Tables, TablesStop, read_tables};
+use grib_text::{Column, Columns, LineForm};
 use std::alloc::Global;
 
 /// Answers the messages of the input, those of edition 2 by the profile, and notes how the run ended.
@@ -68,9 +70,9 @@ pub(crate) fn serve_migrated<S: Source, T: Sink, N: Sink, H: Shelf>(
     shelf: &mut H,
 ) -> Outcome
     ensures serves { let see = seen S.left S.faults T.contents T.faults T.settled N.contents N.faults N.settled H.contents H.faults in
-        Serves (T.takes_memory || N.takes_memory) (AsksTables params.now surfaces.now (λ tables. under profile (migrating local tables))) policy result
+        Serves (T.takes_memory || N.takes_memory) (AsksTables (by_parameters params.now surfaces.now) (λ tables. under profile (migrating local tables))) policy result
         (see input.old output.old notes.old shelf.old) (see input.new output.new notes.new shelf.new) }
-    ensures unread { IfUnread (AsksTables params.now surfaces.now (λ tables. under profile (migrating local tables))) (H.contents shelf.old)
+    ensures unread { IfUnread (AsksTables (by_parameters params.now surfaces.now) (λ tables. under profile (migrating local tables))) (H.contents shelf.old)
         (input.new ≡ input.old) }
 {
     match tables_named(alloc, params, surfaces, shelf) {
@@ -103,9 +105,9 @@ pub(crate) fn serve_demoted<S: Source, T: Sink, N: Sink, H: Shelf>(
     shelf: &mut H,
 ) -> Outcome
     ensures serves { let see = seen S.left S.faults T.contents T.faults T.settled N.contents N.faults N.settled H.contents H.faults in
-        Serves (T.takes_memory || N.takes_memory) (AsksTables params.now None (λ tables. under profile (demoting matching keep_local any_earth tables))) policy result
+        Serves (T.takes_memory || N.takes_memory) (AsksTables (by_parameters params.now None) (λ tables. under profile (demoting matching keep_local any_earth tables))) policy result
         (see input.old output.old notes.old shelf.old) (see input.new output.new notes.new shelf.new) }
-    ensures unread { IfUnread (AsksTables params.now None (λ tables. under profile (demoting matching keep_local any_earth tables))) (H.contents shelf.old)
+    ensures unread { IfUnread (AsksTables (by_parameters params.now None) (λ tables. under profile (demoting matching keep_local any_earth tables))) (H.contents shelf.old)
         (input.new ≡ input.old) }
 {
     match tables_named(alloc, params, &None, shelf) {
@@ -124,6 +126,110 @@ pub(crate) fn serve_demoted<S: Source, T: Sink, N: Sink, H: Shelf>(
     }
 }
 
+/// Prints a line for each field of the input, with the names of the table under this name, where one is asked for.
+pub(crate) fn serve_lines<S: Source, T: Sink, N: Sink, H: Shelf>(
+    alloc: Global,
+    form: LineForm,
+    columns: &Columns,
+    names: &Option<Name>,
+    profile: Profile,
+    policy: Policy,
+    input: &mut S,
+    output: &mut T,
+    notes: &mut N,
+    shelf: &mut H,
+) -> Outcome
+    ensures serves { let see = seen S.left S.faults T.contents T.faults T.settled N.contents N.faults N.settled H.contents H.faults in
+        Serves (T.takes_memory || N.takes_memory) (by_profile profile (lines_work form columns.now names.now)) policy result
+        (see input.old output.old notes.old shelf.old) (see input.new output.new notes.new shelf.new) }
+    ensures unread { IfUnread (by_profile profile (lines_work form columns.now names.now)) (H.contents shelf.old) (input.new ≡ input.old) }
+    ensures unused { has_shelf (by_profile profile (lines_work form columns.now names.now)) ≡ false → shelf.new ≡ shelf.old }
+{
+    let shown = columns.as_slice();
+    match names {
+        Some(name) => serve_lines_named(
+            alloc, form, shown, name, profile, policy, input, output, notes, shelf,
+        ),
+        None => {
+            let lining = ByOutput(Printing(Lining {
+                form,
+                columns: shown,
+                names: None,
+            }));
+            serve_messages(&lining, alloc, profile, policy, input, output, notes, shelf)
+        }
+    }
+}
+
+/// Reads the table of names under this name, and prints a line for each field of the input by it.
+fn serve_lines_named<S: Source, T: Sink, N: Sink, H: Shelf>(
+    alloc: Global,
+    form: LineForm,
+    columns: &[Column],
+    names: &Name,
+    profile: Profile,
+    policy: Policy,
+    input: &mut S,
+    output: &mut T,
+    notes: &mut N,
+    shelf: &mut H,
+) -> Outcome
+    ensures serves { let see = seen S.left S.faults T.contents T.faults T.settled N.contents N.faults N.settled H.contents H.faults in
+        Serves (T.takes_memory || N.takes_memory) (AsksTables (by_names names.now) (λ tables. under profile (lining form columns.now tables))) policy result
+        (see input.old output.old notes.old shelf.old) (see input.new output.new notes.new shelf.new) }
+    ensures unread { IfUnread (AsksTables (by_names names.now) (λ tables. under profile (lining form columns.now tables))) (H.contents shelf.old)
+        (input.new ≡ input.old) }
+{
+    match names_named(alloc, names, shelf) {
+        Ok(tables) => {
+            let lining = ByOutput(Printing(Lining {
+                form,
+                columns,
+                names: Some(&tables.names),
+            }));
+            serve_messages(&lining, alloc, profile, policy, input, output, notes, shelf)
+        }
+        Err(stop) => close_with_note(alloc, untabled(stop), b"", output, notes),
+    }
+}
+
+/// Reads the table of names under this name, and writes the messages and fields of the input that fulfil the conditions
+/// and have one of the names that are wanted.
+pub(crate) fn serve_filtered_named<S: Source, T: Sink, N: Sink, H: Shelf>(
+    alloc: Global,
+    conditions: &Conditions,
+    wanted: &List<Name>,
+    names: &Name,
+    profile: Profile,
+    policy: Policy,
+    input: &mut S,
+    output: &mut T,
+    notes: &mut N,
+    shelf: &mut H,
+) -> Outcome
+    ensures serves { let see = seen S.left S.faults T.contents T.faults T.settled N.contents N.faults N.settled H.contents H.faults in
+        Serves (T.takes_memory || N.takes_memory) (AsksTables (by_names names.now) (λ tables. under profile (filtering_named conditions.now wanted.now tables))) policy result
+        (see input.old output.old notes.old shelf.old) (see input.new output.new notes.new shelf.new) }
+    ensures unread { IfUnread (AsksTables (by_names names.now) (λ tables. under profile (filtering_named conditions.now wanted.now tables))) (H.contents shelf.old)
+        (input.new ≡ input.old) }
+{
+    let asked = conditions.as_slice();
+    let given = wanted.as_slice();
+    match names_named(alloc, names, shelf) {
+        Ok(tables) => {
+            let filtering = ByOutput(Changing(FilteringNamed {
+                conditions: asked,
+                wanted: given,
+                names: &tables.names,
+            }));
+            serve_messages(
+                &filtering, alloc, profile, policy, input, output, notes, shelf,
+            )
+        }
+        Err(stop) => close_with_note(alloc, untabled(stop), b"", output, notes),
+    }
+}
+
 /// Reads the tables under these names.
 fn tables_named<H: Shelf>(
     alloc: Global,
@@ -131,14 +237,24 @@ fn tables_named<H: Shelf>(
     surfaces: &Option<Name>,
     shelf: &mut H,
 ) -> Result<Tables, TablesStop>
-    ensures read { both.ReadsTables result (H.contents shelf.old) params.now surfaces.now }
+    ensures read { specs.ReadsTables result (H.contents shelf.old) (by_parameters params.now surfaces.now) }
     ensures kept { Stays (H.contents shelf.old) (H.contents shelf.new) }
     ensures counted { CountsTables result (H.faults shelf.old) (H.faults shelf.new) }
 {
+    let params = Some(params.as_str());
     match surfaces {
-        Some(surfaces) => read_tables(alloc, params.as_str(), Some(surfaces.as_str()), shelf),
-        None => read_tables(alloc, params.as_str(), None, shelf),
+        Some(surfaces) => read_tables(alloc, params, Some(surfaces.as_str()), None, shelf),
+        None => read_tables(alloc, params, None, None, shelf),
     }
+}
+
+/// Reads the table of names under this name.
+fn names_named<H: Shelf>(alloc: Global, names: &Name, shelf: &mut H) -> Result<Tables, TablesStop>
+    ensures read { specs.ReadsTables result (H.contents shelf.old) (by_names names.now) }
+    ensures kept { Stays (H.contents shelf.old) (H.contents shelf.new) }
+    ensures counted { CountsTables result (H.faults shelf.old) (H.faults shelf.new) }
+{
+    read_tables(alloc, None, None, Some(names.as_str()), shelf)
 }
 
 /// How a run ends that has no tables to answer by.

@@ -14,11 +14,14 @@ ghost use Rattle.grib_run_spec.specs.Tasks.{Work, Makes, IfHears, ends_at_once, 
 
 use crate::closing::close_with_note;
 use crate::making::{serve_made, write_noted};
-use crate::reading::{serve_demoted, serve_messages, serve_migrated};
+use crate::reading::{
+    serve_demoted, serve_filtered_named, serve_lines, serve_messages, serve_migrated,
+};
 use grib_base::Profile;
 use grib_command::{ByOutput, Job};
 use grib_edit::{
-    Changing, Filtering, OfValues, Repacking, Rescanning, Setting, Shrinking, Splitting,
+    Changing, Filtering, Filtering1, OfValues, Repacking, Rescanning, Setting, Setting1, Shrinking,
+    Splitting,
 };
 use grib_io::{Shelf, Sink, Source};
 use grib_items::Policy;
@@ -29,11 +32,10 @@ use grib_values::Arraying;
 use std::alloc::Global;
 
 /// Writes the answer to the job to `output`, and notes how the run ended. The answer is a function of the job, the
-/// input and, for `migrate` and `demote`, the tables that stand on the shelf; it does not depend on how the input comes
-/// in pieces. The run ends at the first octets that are refused, and at the first message that
-/// cannot be changed. `make` and the pages read no input. `split` puts fields on the shelf,
-/// `migrate` and `demote` read their tables there before any input, and no other job uses the
-/// shelf. What is refused by `check` or `list` is refused in time.
+/// input and, for `migrate`, `demote` and what asks for names, the tables that stand on the shelf; it does not depend on
+/// how the input comes in pieces. The run ends at the first octets that are refused, and at the first message that
+/// cannot be changed. `make` and the pages read no input. `split` puts fields on the shelf, tables are read there before
+/// any input, and no other job uses the shelf. What is refused by `check` or `list` is refused in time.
 pub fn serve<S: Source, T: Sink, N: Sink, H: Shelf>(
     alloc: Global,
     job: &Job,
@@ -104,6 +106,13 @@ pub fn serve_under<S: Source, T: Sink, N: Sink, H: Shelf>(
             let keying = ByOutput(Printing(Keying));
             serve_messages(&keying, alloc, profile, policy, input, output, notes, shelf)
         }
+        Job::Lines {
+            form,
+            columns,
+            names,
+        } => serve_lines(
+            alloc, *form, columns, names, profile, policy, input, output, notes, shelf,
+        ),
         Job::Stats => {
             let summing = ByOutput(PrintingValues(Summing));
             serve_messages(
@@ -137,15 +146,37 @@ pub fn serve_under<S: Source, T: Sink, N: Sink, H: Shelf>(
                 &filtering, alloc, profile, policy, input, output, notes, shelf,
             )
         }
-        Job::Split(name) => {
-            let splitting = Splitting { name };
+        Job::FilterNamed {
+            conditions,
+            names,
+            wanted,
+        } => serve_filtered_named(
+            alloc, conditions, wanted, names, profile, policy, input, output, notes, shelf,
+        ),
+        Job::Filter1(conditions) => {
+            let conditions = conditions.as_slice();
+            let filtering = ByOutput(Filtering1 { conditions });
+            serve_messages(
+                &filtering, alloc, profile, policy, input, output, notes, shelf,
+            )
+        }
+        Job::Split { name, edition_1 } => {
+            let edition_1 = *edition_1;
+            let splitting = Splitting { name, edition_1 };
             serve_messages(
                 &splitting, alloc, profile, policy, input, output, notes, shelf,
             )
         }
-        Job::Set(changes) => {
-            let changes = changes.as_slice();
-            let setting = ByOutput(Changing(Setting { changes }));
+        Job::Set { changes, dates } => {
+            let (changes, dates) = (changes.as_slice(), *dates);
+            let setting = ByOutput(Changing(Setting { changes, dates }));
+            serve_messages(
+                &setting, alloc, profile, policy, input, output, notes, shelf,
+            )
+        }
+        Job::Set1 { changes, dates } => {
+            let (changes, dates) = (changes.as_slice(), *dates);
+            let setting = ByOutput(Setting1 { changes, dates });
             serve_messages(
                 &setting, alloc, profile, policy, input, output, notes, shelf,
             )

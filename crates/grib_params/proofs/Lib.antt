@@ -5,3 +5,4 @@ pub mod Rows
 pub mod Reading
 pub mod Spelling
 pub mod SurfaceRows
+pub mod Adding

@@ -23,7 +23,7 @@ use Rattle.grib_params.specs.declared.table.TheConstants.{MOST_OCTETS}
 
 module _ {K V : Type 0} (cmp : K → K → Ordering) (total : IsTotalOrder cmp) where
   -- what is kept under a key
-  abbrev at : List (K × V) → K → Option V
+  abbrev pub at : List (K × V) → K → Option V
   at table key = lookup (λ k. is_eq (cmp key k)) table
 
   -- keys that are equal have the same target
@@ -32,7 +32,7 @@ module _ {K V : Type 0} (cmp : K → K → Ordering) (total : IsTotalOrder cmp) 
   same_target (entry ∷ rest) q k e = rw (total.congr q k entry.0 e, same_target rest q k e) refl
 
   -- keys that are put into a table that does not have them
-  put : (table : List (K × V)) (k q : K) (target : V) → at table k ≡ None
+  pub put : (table : List (K × V)) (k q : K) (target : V) → at table k ≡ None
       → at (insert_entry cmp table k target) q ≡ (if is_eq (cmp q k) then Some target else at table q)
   put [] k q target absent = refl
   put (entry ∷ rest) k q target absent = by (cmp k entry.0) refl (put rest k q target)
@@ -70,17 +70,17 @@ module _ {K V : Type 0} (cmp : K → K → Ordering) (total : IsTotalOrder cmp) 
   or_none (Some x) = refl
 
   -- the first of some records has a row whose key is not in the table, and joins it
-  record IsStep {W : Type 0} (row_of : Fields → Option (K × V)) (from : ℕ → List (K × V) → List Fields → W) (good : W) (count : ℕ) (table : List (K × V)) (fields : Fields) (rest : List Fields) : Type 0 where
-    row : K × V
-    said : row_of fields ≡ Some row
-    new : at table row.0 ≡ None
-    later : from (count + 1) (insert_entry cmp table row.0 row.1) rest ≡ good
+  pub record IsStep {W : Type 0} (row_of : Fields → Option (K × V)) (from : ℕ → List (K × V) → List Fields → W) (good : W) (count : ℕ) (table : List (K × V)) (fields : Fields) (rest : List Fields) : Type 0 where
+    pub row : K × V
+    pub said : row_of fields ≡ Some row
+    pub new : at table row.0 ≡ None
+    pub later : from (count + 1) (insert_entry cmp table row.0 row.1) rest ≡ good
 
   module _ {W : Type 0} (row_of : Fields → Option (K × V)) (from : ℕ → List (K × V) → List Fields → W) (good : List (K × V) → W)
       (done : (count : ℕ) (table made : List (K × V)) → from count table [] ≡ good made → table ≡ made)
       (step : (count : ℕ) (table made : List (K × V)) (fields : Fields) (rest : List Fields) → from count table (fields ∷ rest) ≡ good made → IsStep row_of from (good made) count table fields rest) where
     -- the table that records make of a table
-    from_records : (count : ℕ) (table made : List (K × V)) (records : List Fields) (q : K) → from count table records ≡ good made
+    pub from_records : (count : ℕ) (table made : List (K × V)) (records : List Fields) (q : K) → from count table records ≡ good made
         → at made q ≡ option_or (at table q) (at (filter_map row_of records) q)
     from_records count table made [] q e =
         let same = done count table made e in

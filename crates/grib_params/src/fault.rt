@@ -8,10 +8,10 @@ pub enum TableFault {
     /// The text has more than 1,048,576 octets.
     #[error("the table has more than 1048576 octets")]
     TooLarge,
-    /// This record does not have eight fields, the first a centre or `*` and each other a number.
+    /// This record does not have the fields of a row.
     #[error("record {0} of the table is no row")]
     Row(u64),
-    /// An earlier record has the centre, version and parameter of this one.
+    /// An earlier record has what no two records may share.
     #[error("record {0} of the table repeats an earlier one")]
     Duplicate(u64),
     /// There is no memory.

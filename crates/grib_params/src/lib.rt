@@ -16,7 +16,8 @@ mod table;
 
 pub use fault::TableFault;
 pub use matching::TableMatch;
-pub use row::Target;
+pub use records::{FromRecords, read_rows};
+pub use row::{Target, number_at};
 pub use surface_row::SurfaceTarget;
 pub use surfaces::SurfaceTable;
 pub use table::{MOST_OCTETS, Table};

@@ -1,11 +1,10 @@
-//! Texts of rows, read into maps.
+//! Texts of records, read into tables.
 
 ghost use Rattle.std.specs.Prelude.{◌≡◌, ℕ, List, MatchResult};
-ghost use Rattle.std.specs.declared.option.Option.{Option};
 ghost use Rattle.csv.specs.Records.{fields_of};
 ghost use Rattle.grib_params.specs.declared.fault.TableFault.{TableFault as Fault};
 ghost use Rattle.grib_params.specs.Fields.{Fields};
-ghost use Rattle.grib_params.specs.Rows.{IsVerdict};
+ghost use Rattle.grib_params.specs.Rows.{Adds, IsPut, IsVerdict};
 
 use crate::fault::TableFault;
 use crate::table::MOST_OCTETS;
@@ -13,19 +12,13 @@ use csv::{ByteRecord, ErrorKind, ReaderBuilder};
 use std::alloc::Global;
 use std::collections::BTreeMap;
 
-/// What a record of a text says: a target, and the key that it is kept under.
-pub(crate) trait Row: Drop {
-    /// What a target is kept under. Of two records with one key the second is at fault.
-    type Key: Ord + Drop;
-
-    /// What a record says.
-    ghost row_in: { Fields → Option (Self.Key × Self) };
-
+/// A table that the records of a text make, one after another.
+pub trait FromRecords: Drop {
     /// What is said of a text.
     ghost Verdict: { Type 0 };
 
     /// That the text is this table.
-    ghost good: { List (Self.Key × Self) → Verdict };
+    ghost good: { Self → Verdict };
 
     /// Why a text is no table.
     ghost IsFault: { Verdict → Fault → Type 0 };
@@ -34,22 +27,26 @@ pub(crate) trait Row: Drop {
     ghost verdict: { List ℕ → Verdict };
 
     /// The verdict on the records that follow the first of some count, of which a table is made.
-    ghost verdict_from: { ℕ → List (Self.Key × Self) → List Fields → Verdict };
+    ghost verdict_from: { ℕ → Self → List Fields → Verdict };
 
-    /// The row of a record; `None` where it is none.
-    fn of(given: &ByteRecord) -> Option<(Self::Key, Self)>
-        ensures { result ≡ row_in (fields_of given.now) };
+    /// The table of no records.
+    ghost none: { Self };
 
-    ghost judged: { IsVerdict Self.Key.cmp row_in good IsFault verdict verdict_from };
+    /// The table of no records. It takes no memory.
+    fn empty(alloc: Global) -> Self
+        ensures { result ≡ none };
+
+    /// The table of the records before the one with this number, from 1, and of that one.
+    fn with_record(self, alloc: Global, given: &ByteRecord, number: u64) -> Result<Self, TableFault>
+        ensures { Adds IsFault verdict_from result self (fields_of given.now) number };
+
+    ghost judged: { IsVerdict none good IsFault verdict verdict_from };
 }
 
-/// Reads the rows of a text, one a record, each under its key. There is no header row, and empty lines are no records.
-pub(crate) fn read_rows<R: Row>(
-    alloc: Global,
-    text: &[u8],
-) -> Result<BTreeMap<R::Key, R>, TableFault>
+/// Reads the records of a text into a table. There is no header row, and empty lines are no records.
+pub fn read_rows<R: FromRecords>(alloc: Global, text: &[u8]) -> Result<R, TableFault>
     ensures { MatchResult result
-        (λ rows. R.verdict text.now ≡ R.good rows.entries) (R.IsFault (R.verdict text.now)) }
+        (λ table. R.verdict text.now ≡ R.good table) (R.IsFault (R.verdict text.now)) }
 {
     if text.len() > MOST_OCTETS {
         return Err(TableFault::TooLarge);
@@ -59,7 +56,7 @@ pub(crate) fn read_rows<R: Row>(
         .flexible(true)
         .from_reader(alloc, text)
         .into_byte_records();
-    let mut rows = BTreeMap::new(alloc);
+    let mut table = R::empty(alloc);
     let mut number: u64 = 0;
     for record in records {
         number += 1;
@@ -72,14 +69,25 @@ pub(crate) fn read_rows<R: Row>(
                 return Err(TableFault::Memory);
             }
         };
-        let Some((key, row)) = R::of(&record) else {
-            return Err(TableFault::Row(number));
-        };
-        match rows.insert(key, row) {
-            Ok(None) => {}
-            Ok(Some(_)) => return Err(TableFault::Duplicate(number)),
-            Err(_) => return Err(TableFault::Memory),
-        }
+        table = table.with_record(alloc, &record, number)?;
     }
-    Ok(rows)
+    Ok(table)
+}
+
+/// Puts the row of the record with this number under its key, unless there is one.
+pub(crate) fn put<K: Ord + Drop, T: Drop>(
+    rows: &mut BTreeMap<K, T>,
+    row: Option<(K, T)>,
+    number: u64,
+) -> Result<(), TableFault>
+    ensures { IsPut K.cmp row number rows.old.entries rows.new.entries result }
+{
+    let Some((key, row)) = row else {
+        return Err(TableFault::Row(number));
+    };
+    match rows.insert(key, row) {
+        Ok(None) => Ok(()),
+        Ok(Some(_)) => Err(TableFault::Duplicate(number)),
+        Err(_) => Err(TableFault::Memory),
+    }
 }

@@ -6,7 +6,6 @@ ghost use Rattle.csv.specs.Records.{field_at, fields_of};
 ghost use Rattle.grib_params.specs.Fields as fields;
 
 use crate::number::number_in;
-use crate::records::Row;
 use csv::ByteRecord;
 
 /// What a target is kept under: the centre, `None` for every centre; the version; the parameter.
@@ -24,8 +23,8 @@ pub struct Target {
     pub local: u8,
 }
 
-/// The number of the field at a place, counted from 0.
-pub(crate) fn number_at(given: &ByteRecord, place: usize) -> Option<u8>
+/// The number from 0 to 255 of the field at a place, counted from 0; `None` where it spells none, or there is no such field.
+pub fn number_at(given: &ByteRecord, place: usize) -> Option<u8>
     ensures { result ≡ option_and_then fields.number_in (field_at (fields_of given.now) place) }
 {
     number_in(given.get(place)?)
@@ -42,46 +41,26 @@ pub(crate) fn centre_of(given: &ByteRecord) -> Option<Option<u8>>
     Some(Some(number_in(field)?))
 }
 
-impl Row for Target {
-    type Key = Key;
-
-    ghost use Rattle.grib_params.specs.Fields as fields;
-    ghost use Rattle.grib_params.specs.Judged.{table_judged};
-    ghost use Rattle.grib_params.specs.Table as table;
-
-    ghost row_in = { fields.row_in };
-
-    ghost Verdict = { table.Verdict };
-
-    ghost good = { table.Good };
-
-    ghost IsFault = { table.IsFault };
-
-    ghost verdict = { table.table_verdict };
-
-    ghost verdict_from = { table.verdict_from };
-
-    ghost judged = { table_judged };
-
-    /// The row of a record; `None` where it does not have eight fields, the first a centre or `*` and each
-    /// other a number.
-    #[tactic(auto, using(crate::proofs::Rows::of_eight, crate::proofs::Rows::of_others))]
-    fn of(given: &ByteRecord) -> Option<(Key, Target)> {
-        if given.len() != 8 {
-            return None;
-        }
-        let key = (
-            centre_of(given)?,
-            number_at(given, 1)?,
-            number_at(given, 2)?,
-        );
-        let target = Target {
-            discipline: number_at(given, 3)?,
-            category: number_at(given, 4)?,
-            number: number_at(given, 5)?,
-            master: number_at(given, 6)?,
-            local: number_at(given, 7)?,
-        };
-        Some((key, target))
+/// The row of a record; `None` where it does not have eight fields, the first a centre or `*` and each other a
+/// number.
+#[tactic(auto, using(crate::proofs::Rows::of_eight, crate::proofs::Rows::of_others))]
+pub(crate) fn row_of(given: &ByteRecord) -> Option<(Key, Target)>
+    ensures { result ≡ fields.row_in (fields_of given.now) }
+{
+    if given.len() != 8 {
+        return None;
     }
+    let key = (
+        centre_of(given)?,
+        number_at(given, 1)?,
+        number_at(given, 2)?,
+    );
+    let target = Target {
+        discipline: number_at(given, 3)?,
+        category: number_at(given, 4)?,
+        number: number_at(given, 5)?,
+        master: number_at(given, 6)?,
+        local: number_at(given, 7)?,
+    };
+    Some((key, target))
 }

@@ -7,7 +7,6 @@ ghost use Rattle.grib_params.specs.Fields as fields;
 ghost use Rattle.grib_params.specs.SurfaceRows as rows;
 
 use crate::number::{long_number_in, number_in, short_number_in};
-use crate::records::Row;
 use crate::row::{Key, Target, centre_of, number_at};
 use csv::ByteRecord;
 
@@ -94,41 +93,20 @@ fn target_of(given: &ByteRecord) -> Option<Target>
     })
 }
 
-impl Row for SurfaceTarget {
-    type Key = SurfaceKey;
-
-    ghost use Rattle.grib_params.specs.Judged.{surfaces_judged};
-    ghost use Rattle.grib_params.specs.SurfaceRows as rows;
-    ghost use Rattle.grib_params.specs.Surfaces as surfaces;
-
-    ghost row_in = { rows.surface_row_in };
-
-    ghost Verdict = { surfaces.SurfaceVerdict };
-
-    ghost good = { surfaces.Good };
-
-    ghost IsFault = { surfaces.IsSurfaceFault };
-
-    ghost verdict = { surfaces.surface_verdict };
-
-    ghost verdict_from = { surfaces.surface_verdict_from };
-
-    ghost judged = { surfaces_judged };
-
-    /// The row of a record; `None` where it does not have thirteen fields, as they are listed at
-    /// `SurfaceTable::read`.
-    #[tactic(auto, using(crate::proofs::SurfaceRows::of_thirteen, crate::proofs::SurfaceRows::of_others))]
-    fn of(given: &ByteRecord) -> Option<(SurfaceKey, SurfaceTarget)> {
-        if given.len() != 13 {
-            return None;
-        }
-        let key = key_of(given)?;
-        let target = SurfaceTarget {
-            target: target_of(given)?,
-            kind: number_at(given, 10)?,
-            scale_factor: scale_of(given)?,
-            scaled_value: value_of(given)?,
-        };
-        Some((key, target))
+/// The row of a record; `None` where it does not have thirteen fields, as they are listed at `SurfaceTable::read`.
+#[tactic(auto, using(crate::proofs::SurfaceRows::of_thirteen, crate::proofs::SurfaceRows::of_others))]
+pub(crate) fn surface_row_of(given: &ByteRecord) -> Option<(SurfaceKey, SurfaceTarget)>
+    ensures { result ≡ rows.surface_row_in (fields_of given.now) }
+{
+    if given.len() != 13 {
+        return None;
     }
+    let key = key_of(given)?;
+    let target = SurfaceTarget {
+        target: target_of(given)?,
+        kind: number_at(given, 10)?,
+        scale_factor: scale_of(given)?,
+        scaled_value: value_of(given)?,
+    };
+    Some((key, target))
 }

@@ -4,9 +4,10 @@ ghost use Rattle.std.specs.Prelude.{◌≡◌, [], MatchResult};
 ghost use Rattle.grib_params.specs.Surfaces.{Good, IsSurfaceFault, surface_in, surface_under, surface_verdict};
 
 use crate::fault::TableFault;
-use crate::records::read_rows;
+use crate::records::{FromRecords, put, read_rows};
 use crate::row::Key;
-use crate::surface_row::{SurfaceKey, SurfaceTarget};
+use crate::surface_row::{SurfaceKey, SurfaceTarget, surface_row_of};
+use csv::ByteRecord;
 use std::alloc::Global;
 use std::collections::BTreeMap;
 use std::marker::Model;
@@ -24,6 +25,41 @@ impl Model for SurfaceTable {
     ghost Value = { SurfaceEntries };
 
     ghost view = { λ a. a.targets.entries };
+}
+
+impl FromRecords for SurfaceTable {
+    ghost use Rattle.std.specs.Prelude.{[]};
+    ghost use Rattle.grib_params.specs.Judged.{surfaces_judged};
+    ghost use Rattle.grib_params.specs.Surfaces as surfaces;
+
+    ghost Verdict = { surfaces.SurfaceVerdict };
+
+    ghost good = { surfaces.Good };
+
+    ghost IsFault = { surfaces.IsSurfaceFault };
+
+    ghost verdict = { surfaces.surface_verdict };
+
+    ghost verdict_from = { surfaces.surface_verdict_from };
+
+    ghost none = { [] };
+
+    ghost judged = { surfaces_judged };
+
+    fn empty(alloc: Global) -> SurfaceTable {
+        SurfaceTable::new(alloc)
+    }
+
+    fn with_record(
+        self,
+        _alloc: Global,
+        given: &ByteRecord,
+        number: u64,
+    ) -> Result<SurfaceTable, TableFault> {
+        let mut targets = self.targets;
+        put(&mut targets, surface_row_of(given), number)?;
+        Ok(SurfaceTable { targets })
+    }
 }
 
 impl SurfaceTable {
@@ -49,8 +85,7 @@ impl SurfaceTable {
         ensures { MatchResult result
             (λ table. surface_verdict text.now ≡ Good table) (IsSurfaceFault (surface_verdict text.now)) }
     {
-        let targets = read_rows(alloc, text)?;
-        Ok(SurfaceTable { targets })
+        read_rows(alloc, text)
     }
 
     /// The target of a message with this centre, version, parameter, type of level and level: of the record

@@ -7,8 +7,9 @@ ghost use Rattle.grib_params.specs.Pairs.{first_pair};
 
 use crate::fault::TableFault;
 use crate::matching::TableMatch;
-use crate::records::read_rows;
-use crate::row::{Key, Target};
+use crate::records::{FromRecords, put, read_rows};
+use crate::row::{Key, Target, row_of};
+use csv::ByteRecord;
 use std::alloc::Global;
 use std::collections::BTreeMap;
 use std::marker::Model;
@@ -31,6 +32,43 @@ impl Model for Table {
     ghost view = { λ a. a.targets.entries };
 }
 
+impl FromRecords for Table {
+    ghost use Rattle.std.specs.Prelude.{[]};
+    ghost use Rattle.grib_params.specs.Judged.{table_judged};
+    ghost use Rattle.grib_params.specs.Table as table;
+
+    ghost Verdict = { table.Verdict };
+
+    ghost good = { table.Good };
+
+    ghost IsFault = { table.IsFault };
+
+    ghost verdict = { table.table_verdict };
+
+    ghost verdict_from = { table.verdict_from };
+
+    ghost none = { [] };
+
+    ghost judged = { table_judged };
+
+    fn empty(alloc: Global) -> Table {
+        Table {
+            targets: BTreeMap::new(alloc),
+        }
+    }
+
+    fn with_record(
+        self,
+        _alloc: Global,
+        given: &ByteRecord,
+        number: u64,
+    ) -> Result<Table, TableFault> {
+        let mut targets = self.targets;
+        put(&mut targets, row_of(given), number)?;
+        Ok(Table { targets })
+    }
+}
+
 impl Table {
     /// Reads a table from its text: one record a line, `centre,version,parameter,discipline,category,
     /// number,master,local`, with no header row. Empty lines are no records.
@@ -43,8 +81,7 @@ impl Table {
         ensures { MatchResult result
             (λ table. table_verdict text.now ≡ Good table) (IsFault (table_verdict text.now)) }
     {
-        let targets = read_rows(alloc, text)?;
-        Ok(Table { targets })
+        read_rows(alloc, text)
     }
 
     /// The target of the record with these three, else of the record with `*` and the other two, else

@@ -3,6 +3,7 @@
 use crate::demotion::Demotion;
 use crate::loss::Loss;
 use grib_keys::Key;
+use grib1_sections::Key1;
 
 /// Why a message that is accepted is not changed or printed as asked: what of it would be lost first. Fields
 /// are counted from 1 in their message, and grid points from 1 in their field.
@@ -10,6 +11,8 @@ use grib_keys::Key;
 pub enum Cause {
     /// It is of edition 1, and the command changes messages of edition 2.
     EditionOne,
+    /// It is of edition 2, and the command changes numbers of messages of edition 1.
+    EditionTwo,
     /// The packing has no code for a secondary missing value.
     SecondaryMissing { field: u32, point: u32 },
     /// The packing has no room for a scaled integer.
@@ -20,6 +23,8 @@ pub enum Cause {
     OutputTooLong(u64),
     /// The new value of a key does not fit the octets of its place.
     KeyRange { key: Key },
+    /// The same of a key of edition 1.
+    KeyRange1 { key: Key1 },
     /// A field has no such key.
     KeyAbsent { field: u32, key: Key },
     /// Something of a message of edition 1 has no place in edition 2.
@@ -39,6 +44,8 @@ pub enum Cause {
     /// The values of a field cannot be read: its packing, by this data representation template (code table
     /// 5.0), is opaque.
     Packing { template: u16, field: u32 },
+    /// The reference time would be no date and time.
+    Date,
 }
 
 /// A message that is accepted and cannot be changed or printed as asked.

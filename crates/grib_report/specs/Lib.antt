@@ -1,6 +1,7 @@
 pub mod Checking
 pub mod Listing
 pub mod Keying
+pub mod Lining
 pub mod Dumping
 pub mod Valuing
 pub mod Summing

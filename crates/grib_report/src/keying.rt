@@ -4,6 +4,7 @@ use crate::points::append_text;
 use crate::printing::Printer;
 use grib_command::write_whole;
 use grib_io::{Sink, Stop};
+use grib_stream::Place;
 use grib_text::{keys_line, keys_line1};
 use grib1_sections::Message1;
 use grib2_arrival::Arrival;
@@ -18,33 +19,33 @@ impl Printer for Keying {
     ghost use Rattle.std.specs.Prelude.{false};
     ghost use Rattle.grib_text.specs.KeyLines.{keys_line, keys_line1};
 
-    ghost first_text = { λ keying. keys_line1 };
+    ghost first_text = { λ keying place message. keys_line1 message place.message };
 
-    ghost field_text = { λ keying. keys_line };
+    ghost field_text = { λ keying place message. keys_line message place.message };
 
     ghost hearing = { λ keying. false };
 
     fn write_first<T: Sink>(
         &self,
         alloc: Global,
-        number: u64,
+        place: &Place,
         message: &Message1<'_>,
         output: &mut T,
     ) -> Result<(), Stop> {
-        let line = keys_line1(alloc, message, number)?;
+        let line = keys_line1(alloc, message, place.message)?;
         write_whole(output, line.as_slice())
     }
 
     fn append_field<T: Sink>(
         &self,
         alloc: Global,
-        number: u64,
+        place: &Place,
         message: &Message<'_>,
         field: u32,
         lines: &mut Vec<u8>,
         output: &mut T,
     ) -> Result<(), Stop> {
-        let line = keys_line(alloc, message, number, field)?;
+        let line = keys_line(alloc, message, place.message, field)?;
         append_text(lines, line.as_slice(), output)
     }
 
@@ -56,7 +57,7 @@ impl Printer for Keying {
     fn write_heard<T: Sink>(
         &self,
         _alloc: Global,
-        _number: u64,
+        _place: &Place,
         _arrival: &Arrival,
         _output: &mut T,
     ) -> Result<(), Stop> {

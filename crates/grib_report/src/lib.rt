@@ -6,6 +6,7 @@ mod dumping;
 mod fields;
 mod keeping;
 mod keying;
+mod lining;
 mod listing;
 mod message;
 mod message1;
@@ -20,6 +21,7 @@ mod valuing;
 
 pub use checking::Checking;
 pub use dumping::Dumping;
+pub use grib_text::Lining;
 pub use keying::Keying;
 pub use listing::Listing;
 pub use message::field_sums;

@@ -14,6 +14,7 @@ use crate::points::{ROOM, append_text};
 use crate::printing::Printer;
 use grib_command::write_whole;
 use grib_io::{Sink, Stop};
+use grib_stream::Place;
 use grib_text::{list_line, list_line1, summary_line};
 use grib1_sections::Message1;
 use grib2_arrival::Arrival;
@@ -29,33 +30,33 @@ impl Printer for Listing {
     ghost use Rattle.grib_text.specs.Lines1.{list_line1};
     ghost use Rattle.std.specs.Prelude.{true};
 
-    ghost first_text = { λ listing. list_line1 };
+    ghost first_text = { λ listing place message. list_line1 message place.message };
 
-    ghost field_text = { λ listing. list_line };
+    ghost field_text = { λ listing place message. list_line message place.message };
 
     ghost hearing = { λ listing. true };
 
     fn write_first<T: Sink>(
         &self,
         alloc: Global,
-        number: u64,
+        place: &Place,
         message: &Message1<'_>,
         output: &mut T,
     ) -> Result<(), Stop> {
-        let line = list_line1(alloc, message, number)?;
+        let line = list_line1(alloc, message, place.message)?;
         write_whole(output, line.as_slice())
     }
 
     fn append_field<T: Sink>(
         &self,
         alloc: Global,
-        number: u64,
+        place: &Place,
         message: &Message<'_>,
         field: u32,
         lines: &mut Vec<u8>,
         output: &mut T,
     ) -> Result<(), Stop> {
-        let line = list_line(alloc, message, number, field)?;
+        let line = list_line(alloc, message, place.message, field)?;
         append_text(lines, line.as_slice(), output)
     }
 
@@ -67,12 +68,12 @@ impl Printer for Listing {
     fn write_heard<T: Sink>(
         &self,
         alloc: Global,
-        number: u64,
+        place: &Place,
         arrival: &Arrival,
         output: &mut T,
     ) -> Result<(), Stop> {
         let mut lines = Vec::with_capacity(alloc, ROOM)?;
-        append_heard(alloc, number, arrival, &mut lines, output)?;
+        append_heard(alloc, place.message, arrival, &mut lines, output)?;
         write_whole(output, lines.as_slice())
     }
 }

@@ -7,6 +7,7 @@ ghost use Rattle.grib2_message.specs.Acceptance.{verdict_under};
 ghost use Rattle.grib2_arrival.specs.Heard.{HeardUnder};
 ghost use Rattle.grib2_message.specs.Fields.{field_count};
 ghost use Rattle.grib_command.specs.Command.{texts_from};
+ghost use Rattle.grib_stream.specs.declared.place.Place.{Place as AtPlace};
 ghost use Rattle.grib_command.specs.Pending.{WritesTo, WritesToAllBut};
 
 use crate::fields::{FieldTexts, write_fields};
@@ -20,32 +21,32 @@ use std::alloc::Global;
 
 /// Prints a text of a message of edition 1, and of each field of a message of edition 2.
 pub trait Printer {
-    /// The text of the message of edition 1 with a number.
-    ghost first_text: { Self → List ℕ → ℕ → List ℕ };
+    /// The text of the message of edition 1 at a place.
+    ghost first_text: { Self → AtPlace → List ℕ → List ℕ };
 
-    /// The text of a field, counted from 1, of the message of edition 2 with a number.
-    ghost field_text: { Self → List ℕ → ℕ → ℕ → List ℕ };
+    /// The text of a field, counted from 1, of the message of edition 2 at a place.
+    ghost field_text: { Self → AtPlace → List ℕ → ℕ → List ℕ };
 
     /// Whether messages of edition 2 are printed by what was heard of them.
     ghost hearing: { Self → Bool };
 
-    /// Writes the text of the message of edition 1 with this number.
+    /// Writes the text of the message of edition 1 at this place.
     fn write_first<T: Sink>(
         &self,
         alloc: Global,
-        number: u64,
+        place: &Place,
         message: &Message1<'_>,
         output: &mut T,
     ) -> Result<(), Stop>
         ensures { WritesTo T.contents T.faults T.settled result output.old output.new
-            (first_text self.now message.now number) };
+            (first_text self.now place.now message.now) };
 
-    /// Appends the text of a field of the message with this number to the buffer, which is passed on first
+    /// Appends the text of a field of the message at this place to the buffer, which is passed on first
     /// where it is full.
     fn append_field<T: Sink>(
         &self,
         alloc: Global,
-        number: u64,
+        place: &Place,
         message: &Message<'_>,
         field: u32,
         lines: &mut Vec<u8>,
@@ -54,17 +55,17 @@ pub trait Printer {
         requires first { 1 ≤ field }
         requires last { field ≤ field_count message.now }
         ensures { WritesToAllBut T.contents T.faults T.settled result output.old output.new
-            (lines.old.items ++ field_text self.now message.now number field) lines.new.items };
+            (lines.old.items ++ field_text self.now place.now message.now field) lines.new.items };
 
     /// Whether messages of edition 2 are printed by what was heard of them.
     fn hears(&self) -> bool
         ensures { result ≡ hearing self.now };
 
-    /// Writes the text of each field of the message with this number that was heard. Where none is heard, nothing is said.
+    /// Writes the text of each field of the message at this place that was heard. Where none is heard, nothing is said.
     fn write_heard<T: Sink>(
         &self,
         alloc: Global,
-        number: u64,
+        place: &Place,
         arrival: &Arrival,
         output: &mut T,
     ) -> Result<(), Stop>
@@ -74,7 +75,7 @@ pub trait Printer {
             → HeardUnder profile arrival.now octets
             → verdict_under profile octets ≡ Accepted (length octets)
             → WritesTo T.contents T.faults T.settled result output.old output.new
-            (texts_from (field_text self.now octets number) (field_count octets) 1) };
+            (texts_from (field_text self.now place.now octets) (field_count octets) 1) };
 }
 
 /// The command of what prints a text of each field.
@@ -83,15 +84,15 @@ pub struct Printing<P>(pub P);
 
 impl<P: Printer> Writer for Printing<P> {
     ghost use Rattle.std.specs.Prelude.{refl};
-    ghost use Rattle.grib_command.specs.Command.{printing_fields};
-    ghost use Rattle.grib_command.specs.LawfulCommands.{fields_lawful, heard_lawful};
+    ghost use Rattle.grib_command.specs.Command.{printing_places};
+    ghost use Rattle.grib_command.specs.LawfulCommands.{places_lawful, heard_lawful};
 
-    ghost definition = { λ printing. record (printing_fields (P.first_text printing.0) (P.field_text printing.0)) {
+    ghost definition = { λ printing. record (printing_places (P.first_text printing.0) (P.field_text printing.0)) {
       hears = P.hearing printing.0;
     } };
 
-    ghost lawful = { λ printing. heard_lawful (printing_fields (P.first_text printing.0) (P.field_text printing.0))
-        (P.hearing printing.0) (fields_lawful (P.first_text printing.0) (P.field_text printing.0)) };
+    ghost lawful = { λ printing. heard_lawful (printing_places (P.first_text printing.0) (P.field_text printing.0))
+        (P.hearing printing.0) (places_lawful (P.first_text printing.0) (P.field_text printing.0)) };
 
     ghost unshelved = { λ printing. refl };
 
@@ -102,7 +103,7 @@ impl<P: Printer> Writer for Printing<P> {
         message: &Message1<'_>,
         output: &mut T,
     ) -> Answered {
-        printed(self.0.write_first(alloc, place.message, message, output))
+        printed(self.0.write_first(alloc, place, message, output))
     }
 
     fn second<T: Sink>(
@@ -114,7 +115,7 @@ impl<P: Printer> Writer for Printing<P> {
     ) -> Answered {
         let fields = PrintedFields {
             printer: &self.0,
-            number: place.message,
+            place,
             message,
         };
         printed(write_fields(&fields, alloc, output))
@@ -131,7 +132,7 @@ impl<P: Printer> Writer for Printing<P> {
         arrival: &Arrival,
         output: &mut T,
     ) -> Answered {
-        printed(self.0.write_heard(alloc, place.message, arrival, output))
+        printed(self.0.write_heard(alloc, place, arrival, output))
     }
 
     fn ending(&self) -> Ending {
@@ -139,11 +140,11 @@ impl<P: Printer> Writer for Printing<P> {
     }
 }
 
-/// The fields of the message with this number, as they are printed.
+/// The fields of the message at this place, as they are printed.
 #[derive(Drop)]
 struct PrintedFields<'a, P> {
     printer: &'a P,
-    number: u64,
+    place: &'a Place,
     message: &'a Message<'a>,
 }
 
@@ -152,7 +153,7 @@ impl<P: Printer> FieldTexts for PrintedFields<'_, P> {
 
     ghost count = { λ fields. field_count fields.message.now };
 
-    ghost text = { λ fields. P.field_text fields.printer.now fields.message.now fields.number };
+    ghost text = { λ fields. P.field_text fields.printer.now fields.place.now fields.message.now };
 
     fn fields(&self) -> u32 {
         self.message.fields()
@@ -166,6 +167,6 @@ impl<P: Printer> FieldTexts for PrintedFields<'_, P> {
         output: &mut T,
     ) -> Result<(), Stop> {
         self.printer
-            .append_field(alloc, self.number, self.message, field, lines, output)
+            .append_field(alloc, self.place, self.message, field, lines, output)
     }
 }

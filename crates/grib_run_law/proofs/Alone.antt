@@ -4,11 +4,14 @@ use Rattle.std.proofs.Common.{◌≡◌, ◌⊎◌, inl, inr, ℕ, Bool, true, f
 use Rattle.grib_base.specs.Rows.{choose}
 use Rattle.grib2_sections.specs.Head.{edition}
 use Rattle.grib_reasons.specs.declared.cause.Cause.{Cause}
-use Rattle.grib_reasons.specs.declared.cause.Cause.TheVariants.{EditionOne, Lost, Packing}
+use Rattle.grib_reasons.specs.declared.cause.Cause.TheVariants.{EditionOne, EditionTwo, Lost, Packing}
 use Rattle.grib_packing.specs.Packing.{packing_template}
 use Rattle.grib2_message.specs.Fields.{part_octets}
 use Rattle.grib2_message.specs.Message.{first_opaque}
-use Rattle.grib_keys.specs.declared.wanted.Wanted.{Wanted}
+use Rattle.grib1_select.specs.declared.condition.Change1.{Change1}
+use Rattle.grib1_select.specs.declared.condition.Wanted1.{Wanted1}
+use Rattle.grib1_select.specs.Changed.{with_keys1}
+use Rattle.grib_dates.specs.declared.rule.Dates.{Dates}
 use Rattle.grib_params.specs.Surfaces.{SurfaceEntries}
 use Rattle.grib_params.specs.Table.{Entries}
 use Rattle.grib_migrate.specs.declared.labels.Local.{Local}
@@ -22,7 +25,9 @@ use Rattle.grib_stream.specs.Task.{Given, Gives, Ends}
 use Rattle.grib_command.specs.Command.{Command, given, given_unless, given_readable, given_whole, kept_at, changing_unless, reading_values, task}
 use Rattle.grib_params.specs.declared.matching.TableMatch.{TableMatch}
 use Rattle.grib_edit.specs.Demoting.{demoted_cause, demoted_fields, demote_command}
-use Rattle.grib_edit.specs.Filtering.{filtered, filter_command}
+use Rattle.grib_edit.specs.Choosing.{chosen_of, choosing}
+use Rattle.grib_edit.specs.Filtering1.{filtered1, filter1_command}
+use Rattle.grib_edit.specs.Setting1.{set1_cause, set1_command}
 use Rattle.grib_edit.specs.Migrating.{are_octets, migrate_command}
 
 -- what is given at each place is the same, or the message cannot be changed there by the same cause
@@ -71,8 +76,17 @@ values_fixed cause octets =
 whole_fixed : (octets : List ℕ) → IsFixed (λ place. given_whole octets)
 whole_fixed octets = gives_fixed (writes octets) (length octets)
 
-pub filter_fixed : (conditions : List Wanted) → Fixed (filter_command conditions)
-filter_fixed conditions = by_edition (filter_command conditions) (λ message. kept_fixed EditionOne) (λ message. whole_fixed (filtered conditions message))
+pub choosing_fixed : (chosen : List ℕ → ℕ → Bool) → Fixed (choosing chosen)
+choosing_fixed chosen = by_edition (choosing chosen) (λ message. kept_fixed EditionOne) (λ message. whole_fixed (chosen_of (chosen message) message))
+
+pub filter1_fixed : (conditions : List Wanted1) → Fixed (filter1_command conditions)
+filter1_fixed conditions = by_edition (filter1_command conditions) (λ message. whole_fixed (filtered1 conditions message)) (λ message. whole_fixed [])
+
+pub set1_fixed : (dates : Dates) (changes : List Change1) → Fixed (set1_command dates changes)
+set1_fixed dates changes =
+    by_edition (set1_command dates changes)
+    (λ message. unless_fixed (set1_cause dates changes message) (with_keys1 message changes))
+    (λ message. kept_fixed EditionTwo)
 
 pub migrate_fixed : (local : Local) (table : Entries) (surfaces : SurfaceEntries) → Fixed (migrate_command local table surfaces)
 migrate_fixed local table surfaces =

@@ -15,7 +15,7 @@ use Rattle.grib_stream.specs.Task.{Task, Given, Gives}
 use Rattle.grib_stream.proofs.Exits.{within_short}
 use Rattle.grib_stream.proofs.Streams.{stream_passed, stream_message, is_begun}
 use Rattle.grib_command.specs.declared.job.Job.{Job}
-use Rattle.grib_command.specs.declared.job.Job.TheVariants.{Check, List as Listing, Keys, Stats, Dump, Values, Filter, Split, Set, Repack, RepackLeast, Rescan, Crop, Migrate, Demote, Make, Print}
+use Rattle.grib_command.specs.declared.job.Job.TheVariants.{Check, List as Listing, Keys, Lines, Stats, Dump, Values, Filter, FilterNamed, Filter1, Split, Set, Set1, Repack, RepackLeast, Rescan, Crop, Migrate, Demote, Make, Print}
 use Rattle.grib_command.specs.Command.{Command, given, task, under}
 use Rattle.grib_run_law.specs.Complete.{Piece, IsInGrammar, IsMadeOf, HaveResults}
 use Rattle.grib_run_law.specs.Written.{HasResult}
@@ -23,7 +23,7 @@ use Rattle.grib_command.specs.Judging.{judged, judge_under, fields_of}
 use Rattle.grib_dispatch.specs.Lawful.{least_message, message_stays}
 use Rattle.grib_command.specs.Pages.{text_of}
 use Rattle.grib_run_spec.specs.Tasks as tasks
-use Rattle.grib_table.specs.Both.{Texts}
+use Rattle.grib_table.specs.Together.{Texts}
 use Rattle.grib_run_spec.specs.Tasks.{Stated, Work, Reads, Makes, ReadsTables, by_profile, work_of_job, work_under, made_answer, writing, answer_by, answer_under}
 
 -- ---- jobs that make something
@@ -32,13 +32,18 @@ made_done : (job : Job) (stated : Stated) → work_of_job job ≡ Makes stated �
 made_done Check stated is = let no : ⊥ = cc in absurd no
 made_done Listing stated is = let no : ⊥ = cc in absurd no
 made_done Keys stated is = let no : ⊥ = cc in absurd no
+made_done (Lines form columns None) stated is = let no : ⊥ = cc in absurd no
+made_done (Lines form columns (Some names)) stated is = let no : ⊥ = cc in absurd no
 made_done Stats stated is = let no : ⊥ = cc in absurd no
 made_done (Dump None) stated is = let no : ⊥ = cc in absurd no
 made_done (Dump (Some places)) stated is = let no : ⊥ = cc in absurd no
 made_done (Values format) stated is = let no : ⊥ = cc in absurd no
 made_done (Filter conditions) stated is = let no : ⊥ = cc in absurd no
-made_done (Split name) stated is = let no : ⊥ = cc in absurd no
-made_done (Set changes) stated is = let no : ⊥ = cc in absurd no
+made_done (FilterNamed conditions names wanted) stated is = let no : ⊥ = cc in absurd no
+made_done (Filter1 conditions) stated is = let no : ⊥ = cc in absurd no
+made_done (Split name edition_1) stated is = let no : ⊥ = cc in absurd no
+made_done (Set changes dates) stated is = let no : ⊥ = cc in absurd no
+made_done (Set1 changes dates) stated is = let no : ⊥ = cc in absurd no
 made_done (Repack target) stated is = let no : ⊥ = cc in absurd no
 made_done (RepackLeast profile) stated is = let no : ⊥ = cc in absurd no
 made_done Rescan stated is = let no : ⊥ = cc in absurd no
@@ -130,7 +135,7 @@ module _ (profile : Profile) where
       → length input ≤ 2 ^ 40 → IsMadeOf profile pieces input → HaveResults (by_profile profile work) texts pieces → (tasks.answer_to (by_profile profile work) texts input).outcome ≡ Done
   work_done (Reads command) texts pieces input makes short made has = command_done command pieces input short made has
   work_done (Makes stated) texts pieces input makes short made has = makes stated refl
-  work_done (ReadsTables params surfaces commands) texts pieces input makes short made (tables, good, has) =
+  work_done (ReadsTables asked commands) texts pieces input makes short made (tables, good, has) =
       ap (λ t. (answer_by t (λ tables. under profile (commands tables)) input).outcome) good ∙ command_done (commands tables) pieces input short made has
 
   pub job_done : (job : Job) (texts : Texts) (pieces : List Piece) (input : List ℕ) → length input ≤ 2 ^ 40 → IsMadeOf profile pieces input

@@ -1,16 +1,24 @@
 -- What each command writes for one message.
-use Rattle.std.proofs.Common.{◌≡◌, ◌≢◌, ℕ, ◌<◌, ◌==◌, ◌&&◌, Bool, true, false, cond, is_none, Option, Some, None, option_map, ◌≤◌, List, [], ◌∷◌, ◌++◌, All, refl, sym, ap, ◌∙◌, subst, ⊎_elim, lt-ltb, eqb-true}
+use Rattle.std.proofs.Common.{◌≡◌, ◌≢◌, ℕ, suc, ◌<◌, ◌==◌, ◌&&◌, Bool, true, false, cond, is_none, Option, Some, None, option_map, ◌≤◌, List, [], ◌∷◌, ◌++◌, All, AllPairs, refl, sym, ap, ◌∙◌, subst, arith, ⊎_elim, lt-ltb, eqb-true, append_assoc}
 use Rattle.std.specs.List.{range_with_len}
+use Rattle.std.specs.Option.{option_or}
 use Rattle.std.proofs.lemmas.Bool.{cases_Bool, false≢true, eq-eqb}
-use Rattle.std.proofs.lemmas.List.Elements.{All-head, All-tail}
+use Rattle.std.proofs.lemmas.List.Elements.{All-nil, All-cons, All-head, All-tail, All-from_get_or}
 use Rattle.grib_base.specs.Rows.{choose}
 use Rattle.grib_base.specs.declared.profile.Profile.{Profile}
 use Rattle.grib_base.specs.declared.profile.Profile.TheVariants.{Stated, Open}
 use Rattle.grib_reasons.specs.declared.cause.Cause.{Cause}
-use Rattle.grib_reasons.specs.declared.cause.Cause.TheVariants.{Lost}
+use Rattle.grib_reasons.specs.declared.cause.Cause.TheVariants.{KeyRange1, Lost}
 use Rattle.grib_keys.specs.declared.condition.Change.{Change}
-use Rattle.grib_keys.specs.declared.wanted.Wanted.{Wanted}
 use Rattle.grib_keys.specs.declared.key.Key.{Key}
+use Rattle.grib1_sections.specs.Message.{IsMessage1}
+use Rattle.grib1_select.specs.declared.condition.Change1.{Change1}
+use Rattle.grib1_select.specs.declared.condition.Wanted1.{Wanted1}
+use Rattle.grib1_select.specs.Changed.{with_keys1, set_fault1}
+use Rattle.grib1_select.specs.Values.{fulfils_all1}
+use Rattle.grib_dates.specs.declared.rule.Dates.{Dates}
+use Rattle.grib_dates.specs.declared.rule.Dates.TheVariants.{Any, Valid}
+use Rattle.grib_dates.specs.Times.{is_valid_time1, is_valid_time2}
 use Rattle.grib_select.specs.declared.changing.SetFault.{SetFault}
 use Rattle.grib_select.specs.declared.changing.SetFault.TheVariants.{KeyRange, KeyAbsent, Memory}
 use Rattle.grib_select.specs.Changed.{new_number, with_keys, first_without, change_fault, or_later, set_fault}
@@ -36,11 +44,13 @@ use Rattle.grib_stream.specs.Acts.{Act, Writes, Makes, Adds, writes, written}
 use Rattle.grib_stream.specs.Stream.{Found}
 use Rattle.grib_stream.specs.Task.{Given, Gives}
 use Rattle.grib_command.specs.Command.{Command, given, given_readable, given_unless, under}
-use Rattle.grib_edit.specs.Filtering.{filtered, filter_command, all_fulfil}
+use Rattle.grib_edit.specs.Choosing.{all_chosen, chosen_of, choosing}
+use Rattle.grib_edit.specs.Filtering1.{filtered1, filter1_command}
 use Rattle.grib_edit.specs.Migrating.{are_octets, migrate_command}
 use Rattle.grib_edit.specs.Repacking.{cause_of, repack_command}
-use Rattle.grib_edit.specs.Setting.{set_cause, set_command}
-use Rattle.grib_run_law.specs.Same.{SameValues, SameMigrated, SetsKeys, IsFiltered, IfOctets}
+use Rattle.grib_edit.specs.Setting.{date_cause, set_cause, set_command}
+use Rattle.grib_edit.specs.Setting1.{set1_command}
+use Rattle.grib_run_law.specs.Same.{SameValues, SameMigrated, SetsKeys, SetsKeys1, ArePicked, IsFiltered1, IfOctets}
 use Rattle.grib_run_law.proofs.Accepting.{IsAccepted}
 use Rattle.grib_run_law.proofs.Picking.{CutsOut, picked_by, by_bool, picked_bool}
 
@@ -187,32 +197,93 @@ no_fault (Some (KeyRange key)) never none = let no : ⊥ = cc in absurd no
 no_fault (Some (KeyAbsent field key)) never none = let no : ⊥ = cc in absurd no
 no_fault (Some Memory) never none = absurd (never refl)
 
-module _ (profile : Profile) (changes : List Change) (law : (message : List ℕ) → IsMessageUnder profile message → set_fault message changes ≡ None → SetsKeys profile changes message (with_keys message changes)) where
+-- where there is no cause, there is none of either kind
+neither_cause : (first second : Option Cause) → option_or first second ≡ None → (first ≡ None) × (second ≡ None)
+neither_cause None second is = (refl, is)
+neither_cause (Some cause) second is = let no : ⊥ = cc in absurd no
+
+dated : (dates : Dates) (valid : Bool) → date_cause dates valid ≡ None → dates ≡ Valid → valid ≡ true
+dated Any valid none is = let no : ⊥ = cc in absurd no
+dated Valid true none is = refl
+dated Valid false none is = let no : ⊥ = cc in absurd no
+
+module _ (profile : Profile) (dates : Dates) (changes : List Change) (law : (message : List ℕ) → IsMessageUnder profile message → set_fault message changes ≡ None → (dates ≡ Valid → is_valid_time2 (with_keys message changes) ≡ true) → SetsKeys profile dates changes message (with_keys message changes)) where
   set_by : (b : Bool) (place : Place) (found : Found) (acts : List Act) (more : ℕ) → IsAccepted profile found → (edition found.octets == 1) ≡ b
-      → choose b (λ _. (set_command changes).first place found.octets) (λ _. (set_command changes).second place found.octets) ≡ Gives acts more
-      → SetsKeys profile changes found.octets (written acts)
+      → choose b (λ _. (set_command dates changes).first place found.octets) (λ _. (set_command dates changes).second place found.octets) ≡ Gives acts more
+      → SetsKeys profile dates changes found.octets (written acts)
   set_by true place found acts more accepted one is = let no : ⊥ = cc in absurd no
   set_by false place found acts more accepted not_one is =
-      let (none, same) = unless_wrote (set_cause (set_fault found.octets changes)) place.message (with_keys found.octets changes) acts more is in
-      subst (SetsKeys profile changes found.octets) same
-      (law found.octets (accepted.second not_one) (no_fault (set_fault found.octets changes) (never_memory found.octets changes) none))
+      let octets = found.octets in
+      let fault = set_cause (set_fault octets changes) in
+      let date = date_cause dates (is_valid_time2 (with_keys octets changes)) in
+      let (none, same) = unless_wrote (option_or fault date) place.message (with_keys octets changes) acts more is in
+      let (no_fault_there, no_date) = neither_cause fault date none in
+      subst (SetsKeys profile dates changes octets) same
+      (law octets (accepted.second not_one) (no_fault (set_fault octets changes) (never_memory octets changes) no_fault_there)
+      (dated dates (is_valid_time2 (with_keys octets changes)) no_date))
 
-  pub set_each : WritesEach (SetsKeys profile changes) (under profile (set_command changes))
+  pub set_each : WritesEach (SetsKeys profile dates changes) (under profile (set_command dates changes))
   set_each place found acts more accepted is = set_by (edition found.octets == 1) place found acts more accepted refl is
+
+-- ---- `set` of edition 1
+
+module _ (profile : Profile) (dates : Dates) (changes : List Change1) (law : (message : List ℕ) → All (λ octet. octet < 256) message → IsMessage1 message → set_fault1 changes ≡ None → (dates ≡ Valid → is_valid_time1 (with_keys1 message changes) ≡ true) → SetsKeys1 dates changes message (with_keys1 message changes)) where
+  set1_by : (b : Bool) (place : Place) (found : Found) (acts : List Act) (more : ℕ) → IsAccepted profile found → (edition found.octets == 1) ≡ b
+      → choose b (λ _. (set1_command dates changes).first place found.octets) (λ _. (set1_command dates changes).second place found.octets) ≡ Gives acts more
+      → IfOctets (SetsKeys1 dates changes) found.octets (written acts)
+  set1_by true place found acts more accepted one is = λ small.
+      let octets = found.octets in
+      let fault = option_map KeyRange1 (set_fault1 changes) in
+      let date = date_cause dates (is_valid_time1 (with_keys1 octets changes)) in
+      let (none, same) = unless_wrote (option_or fault date) place.message (with_keys1 octets changes) acts more is in
+      let (no_fault_there, no_date) = neither_cause fault date none in
+      subst (SetsKeys1 dates changes octets) same
+      (law octets small (accepted.first one) (unmapped KeyRange1 (set_fault1 changes) no_fault_there) (dated dates (is_valid_time1 (with_keys1 octets changes)) no_date))
+  set1_by false place found acts more accepted not_one is = let no : ⊥ = cc in absurd no
+
+  pub set1_each : WritesEach (IfOctets (SetsKeys1 dates changes)) (under profile (set1_command dates changes))
+  set1_each place found acts more accepted is = set1_by (edition found.octets == 1) place found acts more accepted refl is
+
+-- what is said of a change behind some and before others is said of each
+pub each_split : (P : Change1 → Type 0) (before changes : List Change1)
+    → ((front : List Change1) (change : Change1) (behind : List Change1) → before ++ changes ≡ front ++ change ∷ behind → All (λ c. c.key ≢ change.key) behind → P change)
+    → AllPairs (λ a b. a.key ≢ b.key) changes → All P changes
+each_split P before [] law apart = All-nil P
+each_split P before (change ∷ changes) law apart =
+    All-cons P change changes (law before change changes refl
+    (All-from_get_or (λ c. c.key ≢ change.key) changes change (λ i low same. apart 0 (suc i) change (omega arith) (omega arith) (sym same))))
+    (each_split P (before ++ change ∷ []) changes
+    (λ front own behind is others. law front own behind (sym (append_assoc before (change ∷ []) changes) ∙ is) others)
+    (λ i j d less low. apart (suc i) (suc j) d (omega arith) (omega arith)))
 
 -- ---- `filter`
 
-module _ (profile : Profile) (law : (message : List ℕ) (i : ℕ) → IsMessageUnder profile message → 1 ≤ i → i ≤ field_count message → CutsOut profile message i) (conditions : List Wanted) where
-  filter_by : (b : Bool) (place : Place) (found : Found) (acts : List Act) (more : ℕ) → IsAccepted profile found → (edition found.octets == 1) ≡ b
-      → choose b (λ _. (filter_command conditions).first place found.octets) (λ _. (filter_command conditions).second place found.octets) ≡ Gives acts more
-      → IsFiltered profile conditions found.octets (written acts)
-  filter_by true place found acts more accepted one is = let no : ⊥ = cc in absurd no
-  filter_by false place found acts more accepted not_one is =
-      let b = all_fulfil conditions found.octets in (
-        picked_by profile law conditions b found.octets,
-        sym (wrote (filtered conditions found.octets) _ acts more is) ∙ by_bool profile law conditions b found.octets,
-        picked_bool profile law conditions b found.octets (accepted.second not_one) refl,
+module _ (profile : Profile) (law : (message : List ℕ) (i : ℕ) → IsMessageUnder profile message → 1 ≤ i → i ≤ field_count message → CutsOut profile message i) (picks : List ℕ → ℕ → Bool) where
+  pick_by : (b : Bool) (place : Place) (found : Found) (acts : List Act) (more : ℕ) → IsAccepted profile found → (edition found.octets == 1) ≡ b
+      → choose b (λ _. (choosing picks).first place found.octets) (λ _. (choosing picks).second place found.octets) ≡ Gives acts more
+      → ArePicked profile picks found.octets (written acts)
+  pick_by true place found acts more accepted one is = let no : ⊥ = cc in absurd no
+  pick_by false place found acts more accepted not_one is =
+      let b = all_chosen (picks found.octets) found.octets in (
+        picked_by profile law picks b found.octets,
+        sym (wrote (chosen_of (picks found.octets) found.octets) _ acts more is) ∙ by_bool profile law picks b found.octets,
+        picked_bool profile law picks b found.octets (accepted.second not_one) refl,
       )
 
-  pub filter_each : WritesEach (IsFiltered profile conditions) (under profile (filter_command conditions))
-  filter_each place found acts more accepted is = filter_by (edition found.octets == 1) place found acts more accepted refl is
+  pub pick_each : WritesEach (ArePicked profile picks) (under profile (choosing picks))
+  pick_each place found acts more accepted is = pick_by (edition found.octets == 1) place found acts more accepted refl is
+
+-- ---- `filter` of edition 1
+
+module _ (profile : Profile) (conditions : List Wanted1) where
+  filter1_by : (b : Bool) (place : Place) (found : Found) (acts : List Act) (more : ℕ) → (edition found.octets == 1) ≡ b
+      → choose b (λ _. (filter1_command conditions).first place found.octets) (λ _. (filter1_command conditions).second place found.octets) ≡ Gives acts more
+      → IsFiltered1 conditions found.octets (written acts)
+  filter1_by true place found acts more one is =
+      sym (wrote (filtered1 conditions found.octets) _ acts more is)
+      ∙ ap (λ b. cond (b && fulfils_all1 found.octets conditions) found.octets []) (sym one)
+  filter1_by false place found acts more not_one is =
+      sym (wrote [] _ acts more is) ∙ ap (λ b. cond (b && fulfils_all1 found.octets conditions) found.octets []) (sym not_one)
+
+  pub filter1_each : WritesEach (IsFiltered1 conditions) (under profile (filter1_command conditions))
+  filter1_each place found acts more accepted is = filter1_by (edition found.octets == 1) place found acts more refl is

@@ -13,8 +13,8 @@ use Rattle.grib2_sections.specs.Head.{edition}
 use Rattle.grib_packing.specs.Packing.{packing_template}
 use Rattle.grib2_message.specs.Fields.{part_octets}
 use Rattle.grib2_message.specs.Message.{first_opaque}
-use Rattle.grib_table.specs.declared.both.Tables.{Tables}
-use Rattle.grib_table.specs.Both.{Both, BothGood, ParametersRefused, SurfacesRefused}
+use Rattle.grib_table.specs.declared.together.Tables.{Tables}
+use Rattle.grib_table.specs.Together.{Together, AllGood, TableRefused, SurfacesRefused}
 use Rattle.grib_least.specs.Least.{least}
 use Rattle.grib_reorder.specs.declared.edit.GridEdit.TheVariants as edits
 use Rattle.grib_stream.specs.declared.outcome.Outcome.{Outcome}
@@ -32,20 +32,24 @@ use Rattle.grib_items.specs.Items.{Item, Accepted, Refused, End, Over, Refusing,
 use Rattle.grib_items.specs.Next.{Unknown, Refuses, next_judged, next_passed, passed}
 use Rattle.grib_items.specs.Laws.{AreInOrder, item_before, item_size, is_refusal}
 use Rattle.grib_command.specs.declared.job.Job.{Job}
-use Rattle.grib_command.specs.declared.job.Job.TheVariants.{Check, List as Listing, Keys, Stats, Dump, Values, Filter, Split, Set, Repack, RepackLeast, Rescan, Crop, Migrate, Demote, Make, Print}
+use Rattle.grib_command.specs.declared.job.Job.TheVariants.{Check, List as Listing, Keys, Lines, Stats, Dump, Values, Filter, FilterNamed, Filter1, Split, Set, Set1, Repack, RepackLeast, Rescan, Crop, Migrate, Demote, Make, Print}
 use Rattle.grib_command.specs.Command.{Command, given, given_readable, given_unless, kept_at, of_values, task, under}
 use Rattle.grib_command.specs.Judging.{judge_under, fields_of}
 use Rattle.grib_command.specs.Texts.{texts}
 use Rattle.grib_report.specs.Checking.{check_command}
 use Rattle.grib_report.specs.Listing.{list_command}
 use Rattle.grib_report.specs.Keying.{keys_command}
+use Rattle.grib_report.specs.Lining.{lines_command}
 use Rattle.grib_report.specs.Summing.{stats_command}
 use Rattle.grib_report.specs.Dumping.{dump_command}
 use Rattle.grib_report.specs.Valuing.{text_unless, value_command}
 use Rattle.grib_values.specs.Arrays.{values_command}
 use Rattle.grib_edit.specs.Filtering.{filter_command}
+use Rattle.grib_edit.specs.FilteringNamed.{filter_named_command}
+use Rattle.grib_edit.specs.Filtering1.{filter1_command}
 use Rattle.grib_edit.specs.Splitting.{split_command}
 use Rattle.grib_edit.specs.Setting.{set_command}
+use Rattle.grib_edit.specs.Setting1.{set1_command}
 use Rattle.grib_edit.specs.Least.{least_command}
 use Rattle.grib_edit.specs.Repacking.{repack_command}
 use Rattle.grib_edit.specs.Rescanning.{edit_command}
@@ -103,25 +107,31 @@ by_edition command first second place message =
 abbrev NeverWork : Work → Type 0
 NeverWork (Reads command) = NeverRefuses command
 NeverWork (Makes stated) = is_refusal stated.outcome ≡ false
-NeverWork (ReadsTables params surfaces commands) = (tables : Tables) → NeverRefuses (commands tables)
+NeverWork (ReadsTables asked commands) = (tables : Tables) → NeverRefuses (commands tables)
 
 -- the profile does not matter
 profile_never : (profile : Profile) (work : Work) → NeverWork work → NeverWork (by_profile profile work)
 profile_never profile (Reads command) never = never
 profile_never profile (Makes stated) never = never
-profile_never profile (ReadsTables params surfaces commands) never = never
+profile_never profile (ReadsTables asked commands) never = never
 
 job_never : (job : Job) → NeverWork (work_of_job job)
 job_never Check = by_edition check_command (λ place message. gives_never _ _) (λ place message. gives_never _ _)
 job_never Listing = by_edition list_command (λ place message. gives_never _ _) (λ place message. gives_never _ _)
 job_never Keys = by_edition keys_command (λ place message. gives_never _ _) (λ place message. gives_never _ _)
+job_never (Lines form columns None) = by_edition (lines_command form columns []) (λ place message. gives_never _ _) (λ place message. gives_never _ _)
+job_never (Lines form columns (Some names)) = λ tables. by_edition (lines_command form columns tables.names) (λ place message. gives_never _ _) (λ place message. gives_never _ _)
 job_never Stats = by_edition stats_command (λ place message. gives_never _ _) (values_never _ (λ place message. gives_never _ _))
 job_never (Dump None) = by_edition dump_command (λ place message. gives_never _ _) (values_never _ (λ place message. gives_never _ _))
 job_never (Dump (Some places)) = by_edition (value_command places) (λ place message. text_never _ _ _) (values_never _ (λ place message. text_never _ _ _))
 job_never (Values format) = by_edition (values_command format) (λ place message. gives_never _ _) (values_never _ (λ place message. gives_never _ _))
 job_never (Filter conditions) = by_edition (filter_command conditions) (λ place message. kept_never _ _) (λ place message. gives_never _ _)
-job_never (Split name) = by_edition (split_command name) (λ place message. kept_never _ _) (λ place message. gives_never _ _)
-job_never (Set changes) = by_edition (set_command changes) (λ place message. kept_never _ _) (λ place message. unless_never _ _ _)
+job_never (FilterNamed conditions names wanted) = λ tables. by_edition (filter_named_command conditions wanted tables.names) (λ place message. kept_never _ _) (λ place message. gives_never _ _)
+job_never (Filter1 conditions) = by_edition (filter1_command conditions) (λ place message. gives_never _ _) (λ place message. gives_never _ _)
+job_never (Split name true) = by_edition (split_command true name) (λ place message. gives_never _ _) (λ place message. gives_never _ _)
+job_never (Split name false) = by_edition (split_command false name) (λ place message. kept_never _ _) (λ place message. gives_never _ _)
+job_never (Set changes dates) = by_edition (set_command dates changes) (λ place message. kept_never _ _) (λ place message. unless_never _ _ _)
+job_never (Set1 changes dates) = by_edition (set1_command dates changes) (λ place message. unless_never _ _ _) (λ place message. kept_never _ _)
 job_never (Repack target) = by_edition (repack_command target) (λ place message. kept_never _ _) (values_never _ (λ place message. unless_never _ _ _))
 job_never (RepackLeast profile) = by_edition (least_command profile) (λ place message. kept_never _ _) (values_never _ (λ place message. unless_never None place.message (least profile message)))
 job_never Rescan = by_edition (edit_command edits.Rescan) (λ place message. kept_never _ _) (values_never _ (λ place message. unless_never _ _ _))
@@ -312,16 +322,16 @@ module _ (profile : Profile) where
         of_some (Judges profile policy outcome) before.left
         (λ input. judges policy outcome input (λ refusal is. absurd (false≢true (sym never ∙ ap is_refusal (sym (once.gives.ends (ap is_broken is)) ∙ is)))))
 
-    tabled_judges : (policy : Policy) (outcome : Outcome) (before now : Seen) (commands : Tables → Command) → ((tables : Tables) → NeverRefuses (under profile (commands tables))) → (t : Both)
+    tabled_judges : (policy : Policy) (outcome : Outcome) (before now : Seen) (commands : Tables → Command) → ((tables : Tables) → NeverRefuses (under profile (commands tables))) → (t : Together)
         → IfTabled (λ tables. under profile (commands tables)) (Reading policy outcome before now) (AtOnce outcome before now) t → IfSome before.left (Judges profile policy outcome)
-    tabled_judges policy outcome before now commands never (BothGood tables) answers = reading_judges policy outcome before now (commands tables) (never tables) answers
-    tabled_judges policy outcome before now commands never (ParametersRefused refusal) answers = at_once_judges policy outcome before now _ refl answers
+    tabled_judges policy outcome before now commands never (AllGood tables) answers = reading_judges policy outcome before now (commands tables) (never tables) answers
+    tabled_judges policy outcome before now commands never (TableRefused refusal) answers = at_once_judges policy outcome before now _ refl answers
     tabled_judges policy outcome before now commands never (SurfacesRefused refusal) answers = at_once_judges policy outcome before now _ refl answers
 
     work_judges : (work : Work) → NeverWork (by_profile profile work) → (policy : Policy) (outcome : Outcome) (before now : Seen) → AnswersWork (by_profile profile work) policy outcome before now → IfSome before.left (Judges profile policy outcome)
     work_judges (Reads command) never policy outcome before now answers = reading_judges policy outcome before now command never answers
     work_judges (Makes stated) never policy outcome before now answers = at_once_judges policy outcome before now stated never answers
-    work_judges (ReadsTables params surfaces commands) never policy outcome before now (read, stood, answers) = tabled_judges policy outcome before now commands never _ answers
+    work_judges (ReadsTables asked commands) never policy outcome before now (read, stood, answers) = tabled_judges policy outcome before now commands never _ answers
 
     pub job_judges : (job : Job) (policy : Policy) (outcome : Outcome) (before now : Seen) → AnswersWork (work_under profile job) policy outcome before now → IfSome before.left (Judges profile policy outcome)
     job_judges job policy outcome before now answers = work_judges (work_of_job job) (profile_never profile (work_of_job job) (job_never job)) policy outcome before now answers

@@ -8,11 +8,16 @@ use Rattle.grib_base.specs.Rows.{choose}
 use Rattle.grib_base.specs.declared.profile.Profile.{Profile}
 use Rattle.grib_keys.specs.declared.condition.Change.{Change}
 use Rattle.grib_keys.specs.declared.wanted.Wanted.{Wanted}
+use Rattle.grib1_select.specs.declared.condition.Change1.{Change1}
+use Rattle.grib1_select.specs.declared.condition.Wanted1.{Wanted1}
+use Rattle.grib_dates.specs.declared.rule.Dates.{Dates}
+use Rattle.grib_names.specs.Table.{NameEntries}
 use Rattle.grib_params.specs.Table.{Entries}
 use Rattle.grib_repack.specs.declared.target.RepackTarget.{RepackTarget}
 use Rattle.grib_migrate.specs.declared.labels.Local.{Local}
 use Rattle.grib_params.specs.Surfaces.{SurfaceEntries}
-use Rattle.grib_table.specs.Both.{Both, BothGood, ParametersRefused, SurfacesRefused}
+use Rattle.grib_table.specs.declared.together.Tables.{Tables}
+use Rattle.grib_table.specs.Together.{Together, AllGood, TableRefused, SurfacesRefused, together}
 use Rattle.grib_stream.specs.declared.outcome.Outcome.{Outcome}
 use Rattle.grib_stream.specs.declared.outcome.Outcome.TheVariants.{InputTooLong}
 use Rattle.grib_stream.specs.Acts.{written, Did, DidFront}
@@ -22,23 +27,26 @@ use Rattle.grib_items.specs.Laws.{is_whole}
 use Rattle.grib_items.specs.Run.{answer_of, answer_within}
 use Rattle.grib_items.specs.Steps.{Plan}
 use Rattle.grib_command.specs.declared.job.Job.{Job}
-use Rattle.grib_command.specs.declared.job.Job.TheVariants.{Check, List as Listing, Keys, Stats, Dump, Values, Filter, Split, Set, Repack, RepackLeast, Rescan, Crop, Migrate, Demote, Make, Print}
+use Rattle.grib_command.specs.declared.job.Job.TheVariants.{Check, List as Listing, Keys, Lines, Stats, Dump, Values, Filter, FilterNamed, Filter1, Split, Set, Set1, Repack, RepackLeast, Rescan, Crop, Migrate, Demote, Make, Print}
 use Rattle.grib_command.specs.Command.{Command, under}
-use Rattle.grib_command.specs.Jobs.{IsJob, CanChange, is_target}
+use Rattle.grib_command.specs.Jobs.{IsJob, CanChange, CanChange1, is_target}
 use Rattle.grib_edit.specs.Filtering.{filter_command}
+use Rattle.grib_edit.specs.Filtering1.{filter1_command}
+use Rattle.grib_edit.specs.FilteringNamed.{filter_named_command}
 use Rattle.grib_edit.specs.Migrating.{migrate_command}
 use Rattle.grib_repack.specs.Faults.{target_of}
 use Rattle.grib_repack.specs.Repacked.{HasPacking}
 use Rattle.grib_edit.specs.Repacking.{repack_command}
 use Rattle.grib_edit.specs.Setting.{set_command}
+use Rattle.grib_edit.specs.Setting1.{set1_command}
 use Rattle.grib_edit.specs.Splitting.{split_command}
 use Rattle.grib_run_spec.specs.Seen.{Seen, world_of}
 use Rattle.grib_run_spec.specs.Serving.{Gives, Reading, AtOnce, AnswersWork}
 use Rattle.grib_run_spec.specs.Stated.{IfTabled, plan_by, stated_by, stated_to}
-use Rattle.grib_run_spec.specs.Tasks.{migrating, work_under}
+use Rattle.grib_run_spec.specs.Tasks.{by_names, by_parameters, filtering_named, migrating, work_under}
 use Rattle.grib_run_law.specs.Answered.{is_longer, items_answered, items_of}
 use Rattle.grib_run_law.specs.Leaving.{AppendsItems, LeavesItems, IfGood, Leaves}
-use Rattle.grib_run_law.specs.Same.{SameValues, SameMigrated, SetsKeys, IsFiltered, AreOctets, IfOctets}
+use Rattle.grib_run_law.specs.Same.{SameValues, SameMigrated, SetsKeys, SetsKeys1, IsFiltered, IsFilteredNamed, IsFiltered1, AreOctets, IfOctets}
 use Rattle.grib_run_law.specs.Shelved.{PutsParts, LeavesNames}
 use Rattle.grib_run_law.specs.Written.{WritesItems, Writes, stated_of}
 use Rattle.grib_run_law.proofs.Accepting.{ItemsStand, octets_all}
@@ -115,71 +123,110 @@ leaves Told Is command policy outcome before now wrote of_octets reading unbroke
 
 -- ---- what stands on a shelf
 
-puts_parts : (profile : Profile) (out : List ℕ) (policy : Policy) (outcome : Outcome) (before now : Seen) (input : List ℕ) → Gives (stated_to (under profile (split_command out)) policy input) outcome before now
-    → PutsParts profile out policy outcome before now input
-puts_parts profile out policy outcome before now input gives =
-    let command = under profile (split_command out) in
+puts_parts : (profile : Profile) (edition_1 : Bool) (out : List ℕ) (policy : Policy) (outcome : Outcome) (before now : Seen) (input : List ℕ) → Gives (stated_to (under profile (split_command edition_1 out)) policy input) outcome before now
+    → PutsParts profile edition_1 out policy outcome before now input
+puts_parts profile edition_1 out policy outcome before now input gives =
+    let command = under profile (split_command edition_1 out) in
     let same = ap (λ s. s.acts) (stated_within command policy input) in
     let short : length (take (2 ^ 40) input) < 2 ^ 64 = omega (arith, length-take (2 ^ 40) input) in
     record {
-      first = stands_first profile out policy (is_longer input) (take (2 ^ 40) input) (world_of before) (world_of now) short (subst (DidFront (world_of before) (world_of now)) same gives.front);
+      first = stands_first profile edition_1 out policy (is_longer input) (take (2 ^ 40) input) (world_of before) (world_of now) short (subst (DidFront (world_of before) (world_of now)) same gives.front);
       whole = λ unbroken.
-          stands_all profile out policy (is_longer input) (take (2 ^ 40) input) (world_of before) (world_of now) short (subst (Did (world_of before) (world_of now)) same (gives.whole unbroken).did);
+          stands_all profile edition_1 out policy (is_longer input) (take (2 ^ 40) input) (world_of before) (world_of now) short (subst (Did (world_of before) (world_of now)) same (gives.whole unbroken).did);
     }
 
-leaves_names : (profile : Profile) (out : List ℕ) (policy : Policy) (outcome : Outcome) (before now : Seen) → Reading policy outcome before now (under profile (split_command out)) → LeavesNames profile out policy outcome before now
-leaves_names profile out policy outcome before now reading = record {
-  left = each_some (λ input. Gives (stated_to (under profile (split_command out)) policy input) outcome before now) (PutsParts profile out policy outcome before now) before.left
-      (puts_parts profile out policy outcome before now) reading.gives;
+leaves_names : (profile : Profile) (edition_1 : Bool) (out : List ℕ) (policy : Policy) (outcome : Outcome) (before now : Seen) → Reading policy outcome before now (under profile (split_command edition_1 out)) → LeavesNames profile edition_1 out policy outcome before now
+leaves_names profile edition_1 out policy outcome before now reading = record {
+  left = each_some (λ input. Gives (stated_to (under profile (split_command edition_1 out)) policy input) outcome before now) (PutsParts profile edition_1 out policy outcome before now) before.left
+      (puts_parts profile edition_1 out policy outcome before now) reading.gives;
   taken =
       let (taken, takes, took) = reading.taken in (
         taken,
         takes,
         (
-          puts_parts profile out policy outcome before now taken took.answered,
-          λ fault. read_all profile out policy taken (world_of before) (world_of now) (omega (arith, took.most)) (took.read_fault fault).did,
+          puts_parts profile edition_1 out policy outcome before now taken took.answered,
+          λ fault. read_all profile edition_1 out policy taken (world_of before) (world_of now) (omega (arith, took.most)) (took.read_fault fault).did,
         ),
       );
 }
 
 -- ---- a job
 
-module _ (profile : Profile) (stand : ItemsStand profile) (repacked : (target : RepackTarget) (policy : Policy) (more : Bool) (octets : List ℕ) → is_target target ≡ true → HasPacking profile (target_of target) → Writes (IfOctets (SameValues profile)) (under profile (repack_command target)) policy more octets) (migrated : (local : Local) (table : Entries) (surfaces : SurfaceEntries) (policy : Policy) (more : Bool) (octets : List ℕ) → Writes (IfOctets (SameMigrated profile)) (under profile (migrate_command local table surfaces)) policy more octets) (set : (changes : List Change) (policy : Policy) (more : Bool) (octets : List ℕ) → CanChange changes → Writes (SetsKeys profile changes) (under profile (set_command changes)) policy more octets) (filtered : (conditions : List Wanted) (policy : Policy) (more : Bool) (octets : List ℕ) → Writes (IsFiltered profile conditions) (under profile (filter_command conditions)) policy more octets) where
+-- what the commands write, as the laws on them say
+pub record WritesAll (profile : Profile) : Type 0 where
+  pub repacked : (target : RepackTarget) (policy : Policy) (more : Bool) (octets : List ℕ) → is_target target ≡ true → HasPacking profile (target_of target)
+      → Writes (IfOctets (SameValues profile)) (under profile (repack_command target)) policy more octets
+  pub migrated : (local : Local) (table : Entries) (surfaces : SurfaceEntries) (policy : Policy) (more : Bool) (octets : List ℕ)
+      → Writes (IfOctets (SameMigrated profile)) (under profile (migrate_command local table surfaces)) policy more octets
+  pub set : (dates : Dates) (changes : List Change) (policy : Policy) (more : Bool) (octets : List ℕ) → CanChange changes
+      → Writes (SetsKeys profile dates changes) (under profile (set_command dates changes)) policy more octets
+  pub set1 : (dates : Dates) (changes : List Change1) (policy : Policy) (more : Bool) (octets : List ℕ) → CanChange1 changes
+      → Writes (IfOctets (SetsKeys1 dates changes)) (under profile (set1_command dates changes)) policy more octets
+  pub filtered : (conditions : List Wanted) (policy : Policy) (more : Bool) (octets : List ℕ) → Writes (IsFiltered profile conditions) (under profile (filter_command conditions)) policy more octets
+  pub filtered_named : (conditions : List Wanted) (wanted : List (List ℕ)) (names : NameEntries) (policy : Policy) (more : Bool) (octets : List ℕ)
+      → Writes (IsFilteredNamed profile conditions wanted names) (under profile (filter_named_command conditions wanted names)) policy more octets
+  pub filtered1 : (conditions : List Wanted1) (policy : Policy) (more : Bool) (octets : List ℕ) → Writes (IsFiltered1 conditions) (under profile (filter1_command conditions)) policy more octets
+
+module _ (profile : Profile) (stand : ItemsStand profile) (write : WritesAll profile) where
   of_octets : (Is : List ℕ → List ℕ → Type 0) (command : Command) (policy : Policy) (more : Bool) (octets : List ℕ) → AreOctets octets
       → Writes (IfOctets Is) (under profile command) policy more octets → Writes Is (under profile command) policy more octets
   of_octets Is command policy more octets small wrote =
       writes_octets Is (under profile command) policy more octets (octets_all profile more octets small (items_of profile policy more octets).items (stand policy more octets)) wrote
 
-  tabled : (local : Local) (policy : Policy) (outcome : Outcome) (before now : Seen) (t : Both)
-      → IfTabled (λ tables. under profile (migrating local tables)) (Reading policy outcome before now) (AtOnce outcome before now) t → is_broken outcome ≡ false
-      → IfGood (λ tables. LeavesItems (IfOctets (SameMigrated profile)) (SameMigrated profile) (under profile (migrating local tables)) policy outcome before now) t
-  tabled local policy outcome before now (BothGood tables) reading unbroken =
-      leaves (IfOctets (SameMigrated profile)) (SameMigrated profile) (under profile (migrating local tables)) policy outcome before now (migrated local tables.parameters tables.surfaces policy)
-      (of_octets (SameMigrated profile) (migrating local tables) policy) reading unbroken
-  tabled local policy outcome before now (ParametersRefused refusal) once unbroken = tt
-  tabled local policy outcome before now (SurfacesRefused refusal) once unbroken = tt
+  -- by tables that are good
+  tabled : (commands : Tables → Command) (Told Is : Tables → List ℕ → List ℕ → Type 0) (policy : Policy) (outcome : Outcome) (before now : Seen)
+      → ((tables : Tables) → Reading policy outcome before now (under profile (commands tables)) → LeavesItems (Told tables) (Is tables) (under profile (commands tables)) policy outcome before now)
+      → (t : Together) → IfTabled (λ tables. under profile (commands tables)) (Reading policy outcome before now) (AtOnce outcome before now) t
+      → IfGood (λ tables. LeavesItems (Told tables) (Is tables) (under profile (commands tables)) policy outcome before now) t
+  tabled commands Told Is policy outcome before now by (AllGood tables) reading = by tables reading
+  tabled commands Told Is policy outcome before now by (TableRefused refusal) once = tt
+  tabled commands Told Is policy outcome before now by (SurfacesRefused refusal) once = tt
 
   pub job_leaves : (job : Job) (policy : Policy) (outcome : Outcome) (before now : Seen) → IsJob job → AnswersWork (work_under profile job) policy outcome before now → Leaves profile job policy outcome before now
   job_leaves Check policy outcome before now is answers = tt
   job_leaves Listing policy outcome before now is answers = tt
   job_leaves Keys policy outcome before now is answers = tt
   job_leaves Stats policy outcome before now is answers = tt
+  job_leaves (Lines form columns names) policy outcome before now is answers = tt
   job_leaves (Dump places) policy outcome before now is answers = tt
   job_leaves (Values format) policy outcome before now is answers = tt
   job_leaves (Filter conditions) policy outcome before now is reading = λ unbroken.
-      leaves (IsFiltered profile conditions) (IsFiltered profile conditions) (under profile (filter_command conditions)) policy outcome before now (filtered conditions policy) (λ more octets small wrote. wrote) reading unbroken
-  job_leaves (Split out) policy outcome before now is reading = leaves_names profile out policy outcome before now reading
-  job_leaves (Set changes) policy outcome before now is reading = λ unbroken.
-      leaves (SetsKeys profile changes) (SetsKeys profile changes) (under profile (set_command changes)) policy outcome before now (λ more octets. set changes policy more octets is.changes_stand)
+      leaves (IsFiltered profile conditions) (IsFiltered profile conditions) (under profile (filter_command conditions)) policy outcome before now (write.filtered conditions policy)
       (λ more octets small wrote. wrote) reading unbroken
+  job_leaves (FilterNamed conditions name wanted) policy outcome before now is (texts, stood, answers) = λ unbroken. (
+    texts,
+    stood,
+    tabled (filtering_named conditions wanted) (λ tables. IsFilteredNamed profile conditions wanted tables.names) (λ tables. IsFilteredNamed profile conditions wanted tables.names) policy outcome before now
+        (λ tables reading.
+        leaves (IsFilteredNamed profile conditions wanted tables.names) (IsFilteredNamed profile conditions wanted tables.names) (under profile (filtering_named conditions wanted tables)) policy outcome before now
+        (write.filtered_named conditions wanted tables.names policy) (λ more octets small wrote. wrote) reading unbroken)
+        (together (by_names name) texts) answers,
+  )
+  job_leaves (Filter1 conditions) policy outcome before now is reading = λ unbroken.
+      leaves (IsFiltered1 conditions) (IsFiltered1 conditions) (under profile (filter1_command conditions)) policy outcome before now (write.filtered1 conditions policy)
+      (λ more octets small wrote. wrote) reading unbroken
+  job_leaves (Split out edition_1) policy outcome before now is reading = leaves_names profile edition_1 out policy outcome before now reading
+  job_leaves (Set changes dates) policy outcome before now is reading = λ unbroken.
+      leaves (SetsKeys profile dates changes) (SetsKeys profile dates changes) (under profile (set_command dates changes)) policy outcome before now
+      (λ more octets. write.set dates changes policy more octets is.changes_stand) (λ more octets small wrote. wrote) reading unbroken
+  job_leaves (Set1 changes dates) policy outcome before now is reading = λ unbroken.
+      leaves (IfOctets (SetsKeys1 dates changes)) (SetsKeys1 dates changes) (under profile (set1_command dates changes)) policy outcome before now
+      (λ more octets. write.set1 dates changes policy more octets is.changes1_stand) (of_octets (SetsKeys1 dates changes) (set1_command dates changes) policy) reading unbroken
   job_leaves (Repack target) policy outcome before now is reading = λ unbroken has.
-      leaves (IfOctets (SameValues profile)) (SameValues profile) (under profile (repack_command target)) policy outcome before now (λ more octets. repacked target policy more octets is.target_stands has)
-      (of_octets (SameValues profile) (repack_command target) policy) reading unbroken
+      leaves (IfOctets (SameValues profile)) (SameValues profile) (under profile (repack_command target)) policy outcome before now
+      (λ more octets. write.repacked target policy more octets is.target_stands has) (of_octets (SameValues profile) (repack_command target) policy) reading unbroken
   job_leaves (RepackLeast tried) policy outcome before now is answers = tt
   job_leaves Rescan policy outcome before now is answers = tt
   job_leaves (Crop area) policy outcome before now is answers = tt
-  job_leaves (Migrate params surfaces local) policy outcome before now is (texts, stood, answers) = λ unbroken.
-      (texts, stood, tabled local policy outcome before now _ answers unbroken)
+  job_leaves (Migrate params surfaces local) policy outcome before now is (texts, stood, answers) = λ unbroken. (
+    texts,
+    stood,
+    tabled (migrating local) (λ tables. IfOctets (SameMigrated profile)) (λ tables. SameMigrated profile) policy outcome before now
+        (λ tables reading.
+        leaves (IfOctets (SameMigrated profile)) (SameMigrated profile) (under profile (migrating local tables)) policy outcome before now (write.migrated local tables.parameters tables.surfaces policy)
+        (of_octets (SameMigrated profile) (migrating local tables) policy) reading unbroken)
+        (together (by_parameters params surfaces) texts) answers,
+  )
   job_leaves (Demote params keep any_earth matching) policy outcome before now is answers = tt
   job_leaves (Make seed ni nj target) policy outcome before now is answers = tt
   job_leaves (Print page) policy outcome before now is answers = tt

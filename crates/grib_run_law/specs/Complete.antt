@@ -3,8 +3,8 @@ use Rattle.std.specs.Prelude.{◌≡◌, ◌⊎◌, ℕ, List, [], ◌∷◌, �
 use Rattle.grib_base.specs.declared.profile.Profile.{Profile}
 use Rattle.grib1_sections.specs.Message.{IsMessage1}
 use Rattle.grib2_message.specs.Message.{IsMessageUnder}
-use Rattle.grib_table.specs.declared.both.Tables.{Tables}
-use Rattle.grib_table.specs.Both.{BothGood, Texts, both}
+use Rattle.grib_table.specs.declared.together.Tables.{Tables}
+use Rattle.grib_table.specs.Together.{AllGood, Texts, together}
 use Rattle.grib_stream.specs.Searching.{Markless}
 use Rattle.grib_run_spec.specs.Tasks.{Work, Reads, Makes, ReadsTables}
 use Rattle.grib_run_law.specs.Written.{HasResult}
@@ -28,5 +28,5 @@ IsMadeOf profile (piece ∷ pieces) input =
 abbrev pub HaveResults : Work → Texts → List Piece → Type 0
 HaveResults (Reads command) texts pieces = All (λ piece. HasResult command piece.message) pieces
 HaveResults (Makes stated) texts pieces = Unit {0}
-HaveResults (ReadsTables params surfaces commands) texts pieces =
-    (tables : Tables) × (both surfaces texts ≡ BothGood tables) × All (λ piece. HasResult (commands tables) piece.message) pieces
+HaveResults (ReadsTables asked commands) texts pieces =
+    (tables : Tables) × (together asked texts ≡ AllGood tables) × All (λ piece. HasResult (commands tables) piece.message) pieces

@@ -5,11 +5,15 @@ ghost use Rattle.std.specs.declared.option.Option.{Option};
 ghost use Rattle.grib_base.specs.declared.profile.Profile.{Profile};
 ghost use Rattle.grib_keys.specs.declared.condition.Change.{Change};
 ghost use Rattle.grib_keys.specs.declared.wanted.Wanted.{Wanted};
+ghost use Rattle.grib1_select.specs.declared.condition.Change1.{Change1};
+ghost use Rattle.grib1_select.specs.declared.condition.Wanted1.{Wanted1};
+ghost use Rattle.grib_dates.specs.declared.rule.Dates.{Dates};
+ghost use Rattle.grib_names.specs.Table.{NameEntries};
 ghost use Rattle.grib_migrate.specs.declared.labels.Local.{Local};
 ghost use Rattle.grib_params.specs.Surfaces.{SurfaceEntries};
 ghost use Rattle.grib_params.specs.Table.{Entries};
 ghost use Rattle.grib_repack.specs.declared.target.RepackTarget.{RepackTarget};
-ghost use Rattle.grib_table.specs.Both.{Texts};
+ghost use Rattle.grib_table.specs.Together.{Texts};
 ghost use Rattle.grib_stream.specs.declared.outcome.Outcome.{Outcome};
 ghost use Rattle.grib_stream.specs.declared.outcome.Outcome.TheVariants.{Done};
 ghost use Rattle.grib_stream.specs.Acts.{World, written, Did, DidFront};
@@ -19,12 +23,15 @@ ghost use Rattle.grib_items.specs.declared.policy.Policy.{Policy};
 ghost use Rattle.grib_items.specs.Laws.{nothing};
 ghost use Rattle.grib_command.specs.declared.job.Job.{Job};
 ghost use Rattle.grib_command.specs.Command.{Command, IsLawfulCommand, task, under};
-ghost use Rattle.grib_command.specs.Jobs.{IsJob, CanChange, is_target};
+ghost use Rattle.grib_command.specs.Jobs.{IsJob, CanChange, CanChange1, is_target};
 ghost use Rattle.grib_command.specs.Judging.{judge_under};
 ghost use Rattle.grib_edit.specs.Filtering.{filter_command};
+ghost use Rattle.grib_edit.specs.Filtering1.{filter1_command};
+ghost use Rattle.grib_edit.specs.FilteringNamed.{filter_named_command};
 ghost use Rattle.grib_edit.specs.Migrating.{migrate_command};
 ghost use Rattle.grib_edit.specs.Repacking.{repack_command};
 ghost use Rattle.grib_edit.specs.Setting.{set_command};
+ghost use Rattle.grib_edit.specs.Setting1.{set1_command};
 ghost use Rattle.grib_edit.specs.Splitting.{split_command};
 ghost use Rattle.grib_run_spec.specs.Seen.{Seen};
 ghost use Rattle.grib_run_spec.specs.Serving.{AnswersWork};
@@ -35,7 +42,7 @@ ghost use Rattle.grib_run_law.specs.Each.{writes_each};
 ghost use Rattle.grib_run_law.specs.Judged.{Judges};
 ghost use Rattle.grib_run_law.specs.Leaving.{Leaves};
 ghost use Rattle.grib_run_law.specs.Plain.{IsPlainly};
-ghost use Rattle.grib_run_law.specs.Same.{SameValues, SameMigrated, SetsKeys, IsFiltered, IfOctets};
+ghost use Rattle.grib_run_law.specs.Same.{SameValues, SameMigrated, SetsKeys, SetsKeys1, IsFiltered, IsFilteredNamed, IsFiltered1, IfOctets};
 ghost use Rattle.grib_run_law.specs.Shelved.{SplitsFields, parts_within, OfNames, StandFirst, StandAll};
 ghost use Rattle.grib_run_law.specs.Written.{Writes, stated_of};
 ghost use Rattle.grib_repack.specs.Faults.{target_of};
@@ -45,6 +52,7 @@ use grib_items::laws::{items_stand, nothing_is_passed};
 use grib_repack::laws::what_is_repacked_keeps_each_value as what_is_packed_anew_keeps_each_value;
 use grib_select::laws::{what_is_cut_out_keeps_its_column, what_is_set_keeps_each_column};
 use grib_stream::laws::each_outcome_has_its_note;
+use grib1_select::laws::{what_is_set_keeps_the_column, what_is_set_stands};
 
 /// What `repack` to a packing that the profile has writes is, for each item until the run ends, a message with the same values, or what stands for a message
 /// that cannot be changed, or what the policy has for octets that are refused.
@@ -66,28 +74,51 @@ pub fn what_is_migrated_keeps_each_value()
 }
 
 /// What `set` writes is so a message with the same columns. Where no key stands twice among the changes, its fields have the
-/// keys with their new values.
+/// keys with their new values. Where dates are to be valid, its reference time is a date and time.
 pub fn what_is_set_keeps_each_field()
-    ensures { (profile : Profile) (changes : List Change) (policy : Policy) (more : Bool) (octets : List ℕ) → CanChange changes
-        → Writes (SetsKeys profile changes) (under profile (set_command changes)) policy more octets }
+    ensures { (profile : Profile) (dates : Dates) (changes : List Change) (policy : Policy) (more : Bool) (octets : List ℕ) → CanChange changes
+        → Writes (SetsKeys profile dates changes) (under profile (set_command dates changes)) policy more octets }
 {
     items_stand();
     what_is_set_keeps_each_column();
 }
 
-/// What `filter` writes are so the fields that fulfil the conditions, each with its column.
+/// What `set` of edition 1 writes is so a message of edition 1 with the same column, and has the keys with their new values
+/// and each other key as it was.
+pub fn what_is_set_in_edition_1_keeps_the_field()
+    ensures { (profile : Profile) (dates : Dates) (changes : List Change1) (policy : Policy) (more : Bool) (octets : List ℕ) → CanChange1 changes
+        → Writes (IfOctets (SetsKeys1 dates changes)) (under profile (set1_command dates changes)) policy more octets }
+{
+    items_stand();
+    what_is_set_keeps_the_column();
+    what_is_set_stands();
+}
+
+/// What `filter` writes are so the fields that fulfil the conditions, and have one of the names that are wanted, each with
+/// its column.
 pub fn what_is_filtered_keeps_each_column()
-    ensures { (profile : Profile) (conditions : List Wanted) (policy : Policy) (more : Bool) (octets : List ℕ)
+    ensures keys { (profile : Profile) (conditions : List Wanted) (policy : Policy) (more : Bool) (octets : List ℕ)
         → Writes (IsFiltered profile conditions) (under profile (filter_command conditions)) policy more octets }
+    ensures names { (profile : Profile) (conditions : List Wanted) (wanted : List (List ℕ)) (names : NameEntries) (policy : Policy) (more : Bool) (octets : List ℕ)
+        → Writes (IsFilteredNamed profile conditions wanted names) (under profile (filter_named_command conditions wanted names)) policy more octets }
 {
     items_stand();
     what_is_cut_out_keeps_its_column();
 }
 
+/// What `filter` of edition 1 writes are so the messages of edition 1 that fulfil the conditions, as they are.
+pub fn what_is_filtered_in_edition_1_is_whole()
+    ensures { (profile : Profile) (conditions : List Wanted1) (policy : Policy) (more : Bool) (octets : List ℕ)
+        → Writes (IsFiltered1 conditions) (under profile (filter1_command conditions)) policy more octets }
+{
+    items_stand();
+}
+
 /// What `split` puts on the shelf are the fields of the messages that are answered, in their order: each is an accepted
-/// message of one field, with its column.
+/// message of one field, with its column. Messages of edition 1 stand among them as they are, where they are asked for.
 pub fn what_is_split_keeps_each_column()
-    ensures { (profile : Profile) (out : List ℕ) (policy : Policy) (more : Bool) (octets : List ℕ) → SplitsFields profile out policy more octets }
+    ensures { (profile : Profile) (edition_1 : Bool) (out : List ℕ) (policy : Policy) (more : Bool) (octets : List ℕ)
+        → SplitsFields profile edition_1 out policy more octets }
 {
     items_stand();
     what_is_cut_out_keeps_its_column();
@@ -97,19 +128,20 @@ pub fn what_is_split_keeps_each_column()
 /// the next is as it was or has some first octets of that field, and each other name has what it had. Where all was
 /// done, all fields stand so.
 pub fn what_is_split_stands_whole()
-    ensures first { (profile : Profile) (out : List ℕ) (policy : Policy) (more : Bool) (octets : List ℕ) (before now : World)
+    ensures first { (profile : Profile) (edition_1 : Bool) (out : List ℕ) (policy : Policy) (more : Bool) (octets : List ℕ) (before now : World)
         → length octets < 2 ^ 64
-        → DidFront before now (stated_of (under profile (split_command out)) policy more octets).acts
+        → DidFront before now (stated_of (under profile (split_command edition_1 out)) policy more octets).acts
         → OfNames before.names now.names (λ held held_now.
-        (count : ℕ) × StandFirst (parts_within profile out policy more octets) held held_now count) }
-    ensures whole { (profile : Profile) (out : List ℕ) (policy : Policy) (more : Bool) (octets : List ℕ) (before now : World)
+        (count : ℕ) × StandFirst (parts_within profile edition_1 out policy more octets) held held_now count) }
+    ensures whole { (profile : Profile) (edition_1 : Bool) (out : List ℕ) (policy : Policy) (more : Bool) (octets : List ℕ) (before now : World)
         → length octets < 2 ^ 64
-        → Did before now (stated_of (under profile (split_command out)) policy more octets).acts
-        → OfNames before.names now.names (StandAll (parts_within profile out policy more octets)) }
+        → Did before now (stated_of (under profile (split_command edition_1 out)) policy more octets).acts
+        → OfNames before.names now.names (StandAll (parts_within profile edition_1 out policy more octets)) }
 {}
 
 /// What a run leaves. Where neither a device nor memory ended it, `repack`, `migrate`, `set` and `filter` appended for each
-/// item, until the run ended, what the laws above say. Of `split`, however it ended, the fields stand on the shelf.
+/// item, until the run ended, what the laws above say, by the tables that stand on the shelf. Of `split`, however it ended,
+/// the fields stand on the shelf.
 pub fn what_a_run_leaves()
     ensures { (profile : Profile) (job : Job) (policy : Policy) (outcome : Outcome) (before now : Seen) → IsJob job
         → AnswersWork (work_under profile job) policy outcome before now → Leaves profile job policy outcome before now }
@@ -118,7 +150,9 @@ pub fn what_a_run_leaves()
     what_is_repacked_keeps_each_value();
     what_is_migrated_keeps_each_value();
     what_is_set_keeps_each_field();
+    what_is_set_in_edition_1_keeps_the_field();
     what_is_filtered_keeps_each_column();
+    what_is_filtered_in_edition_1_is_whole();
 }
 
 /// Each message of the input of a run, as far as it is answered, is in the grammar of its edition, and octets that are

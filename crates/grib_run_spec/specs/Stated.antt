@@ -4,8 +4,8 @@ use Rattle.std.specs.Prelude.{ℕ, ◌^◌, ◌==◌, ◌&&◌, Bool, cond, List
 use Rattle.std.specs.declared.option.Option.{Option}
 use Rattle.std.specs.declared.result.Result.{Result}
 use Rattle.grib_io.specs.Shelves.{Held}
-use Rattle.grib_table.specs.declared.both.Tables.{Tables}
-use Rattle.grib_table.specs.Both.{Both, BothGood, ParametersRefused, SurfacesRefused, Texts, both, BothStood}
+use Rattle.grib_table.specs.declared.together.Tables.{Tables}
+use Rattle.grib_table.specs.Together.{Asked, Together, AllGood, TableRefused, SurfacesRefused, Texts, together, AllStood}
 use Rattle.grib_stream.specs.declared.outcome.Outcome.{Outcome}
 use Rattle.grib_stream.specs.declared.outcome.Outcome.TheVariants as outcomes
 use Rattle.grib_stream.specs.declared.outcome.Outcome.TheVariants.{Done, Passed}
@@ -62,19 +62,19 @@ stated_to command policy input = stated_by command.ending (answer_within (2 ^ 40
 -- ---- of what is asked
 
 -- what was read as the tables says this; where the shelf does not tell it, some texts
-abbrev pub ByTables : Option Held → List ℕ → Option (List ℕ) → (Both → Type 0) → Type 0
-ByTables names params surfaces Is = (read : Texts) × BothStood names params surfaces read × Is (both surfaces read)
+abbrev pub ByTables : Option Held → Asked → (Together → Type 0) → Type 0
+ByTables names asked Is = (read : Texts) × AllStood names asked read × Is (together asked read)
 
 -- what holds of the command of what is asked, by the tables where they are read and are good; else of what is stated at once
-abbrev pub IfTabled : (Tables → Command) → (Command → Type 0) → (Stated → Type 0) → Both → Type 0
-IfTabled commands Reading AtOnce (BothGood tables) = Reading (commands tables)
-IfTabled commands Reading AtOnce (ParametersRefused refusal) = AtOnce (ends_at_once (outcomes.TableRefused refusal))
+abbrev pub IfTabled : (Tables → Command) → (Command → Type 0) → (Stated → Type 0) → Together → Type 0
+IfTabled commands Reading AtOnce (AllGood tables) = Reading (commands tables)
+IfTabled commands Reading AtOnce (TableRefused refusal) = AtOnce (ends_at_once (outcomes.TableRefused refusal))
 IfTabled commands Reading AtOnce (SurfacesRefused refusal) = AtOnce (ends_at_once (outcomes.SurfacesRefused refusal))
 
 abbrev pub IfAsked : Work → Option Held → (Command → Type 0) → (Stated → Type 0) → Type 0
 IfAsked (Reads command) names Reading AtOnce = Reading command
 IfAsked (Makes stated) names Reading AtOnce = AtOnce stated
-IfAsked (ReadsTables params surfaces commands) names Reading AtOnce = ByTables names params surfaces (IfTabled commands Reading AtOnce)
+IfAsked (ReadsTables asked commands) names Reading AtOnce = ByTables names asked (IfTabled commands Reading AtOnce)
 
 -- what holds of the answer, where the input tells what is left of it
 abbrev pub IfStated : Work → Policy → Option Held → Option (List ℕ) → (Stated → Type 0) → Type 0

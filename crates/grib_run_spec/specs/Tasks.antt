@@ -15,17 +15,23 @@ use Rattle.grib_synthetic.specs.Summary.{present_count, present_sum}
 use Rattle.grib_synthetic.specs.Made.{made}
 use Rattle.grib_migrate.specs.declared.labels.Local.{Local}
 use Rattle.grib_params.specs.declared.matching.TableMatch.{TableMatch}
-use Rattle.grib_table.specs.declared.both.Tables.{Tables}
-use Rattle.grib_table.specs.Both.{Both, BothGood, ParametersRefused, SurfacesRefused, Texts, both, no_texts}
+use Rattle.grib_table.specs.declared.together.Tables.{Tables}
+use Rattle.grib_table.specs.Together.{Asked, asked, Together, AllGood, TableRefused, SurfacesRefused, Texts, together, no_texts}
+use Rattle.grib_keys.specs.declared.wanted.Wanted.{Wanted}
+use Rattle.grib_text.specs.declared.column.LineForm.{LineForm}
+use Rattle.grib_text.specs.declared.column.Column.{Column}
 use Rattle.grib_command.specs.declared.job.Job.{Job}
-use Rattle.grib_command.specs.declared.job.Job.TheVariants.{Check, List as Listing, Keys, Stats, Dump, Values, Filter, Split, Set, Repack, RepackLeast, Rescan, Crop, Migrate, Demote, Make, Print}
+use Rattle.grib_command.specs.declared.job.Job.TheVariants.{Check, List as Listing, Keys, Lines, Stats, Dump, Values, Filter, FilterNamed, Filter1, Split, Set, Set1, Repack, RepackLeast, Rescan, Crop, Migrate, Demote, Make, Print}
 use Rattle.grib_report.specs.Checking.{check_command}
 use Rattle.grib_command.specs.Command.{Command, task, under}
 use Rattle.grib_report.specs.Dumping.{dump_command}
 use Rattle.grib_edit.specs.Filtering.{filter_command}
+use Rattle.grib_edit.specs.Filtering1.{filter1_command}
+use Rattle.grib_edit.specs.FilteringNamed.{filter_named_command}
 use Rattle.grib_edit.specs.Least.{least_command}
 use Rattle.grib_report.specs.Listing.{list_command}
 use Rattle.grib_report.specs.Keying.{keys_command}
+use Rattle.grib_report.specs.Lining.{lines_command}
 use Rattle.grib_command.specs.Notes.{made_note}
 use Rattle.grib_edit.specs.Migrating.{migrate_command}
 use Rattle.grib_command.specs.Pages.{text_of}
@@ -35,6 +41,7 @@ use Rattle.grib_edit.specs.Repacking.{repack_command}
 use Rattle.grib_edit.specs.Rescanning.{edit_command}
 use Rattle.grib_reorder.specs.declared.edit.GridEdit.TheVariants as edits
 use Rattle.grib_edit.specs.Setting.{set_command}
+use Rattle.grib_edit.specs.Setting1.{set1_command}
 use Rattle.grib_edit.specs.Splitting.{split_command}
 use Rattle.grib_report.specs.Summing.{stats_command}
 use Rattle.grib_report.specs.Valuing.{value_command}
@@ -66,13 +73,21 @@ note_of_made seed ni nj target =
 abbrev pub made_answer : ℕ → ℕ → ℕ → RepackTarget → Stated
 made_answer seed ni nj target = writing (repacked (target_of target) (made seed ni nj)) (note_of_made seed ni nj target)
 
--- a job answers the messages of an input, or reads none and has one answer, or answers the messages by the tables
--- that stand on the shelf under the name of the parameter table and under that of the table of surfaces, where one is
--- asked for
+-- a job answers the messages of an input, or reads none and has one answer, or answers the messages by the tables that
+-- stand on the shelf under the names that it asks for
 pub data Work : Type 0 where
   Reads : Command → Work
   Makes : Stated → Work
-  ReadsTables : List ℕ → Option (List ℕ) → (Tables → Command) → Work
+  ReadsTables : Asked → (Tables → Command) → Work
+
+-- the tables by which messages become those of the other edition: a parameter table, and a table of surfaces where one
+-- is asked for
+abbrev pub by_parameters : List ℕ → Option (List ℕ) → Asked
+by_parameters params surfaces = asked (Some params) surfaces None
+
+-- a table of names alone
+abbrev pub by_names : List ℕ → Asked
+by_names name = asked None None (Some name)
 
 -- the commands that the tables give
 abbrev pub migrating : Local → Tables → Command
@@ -81,24 +96,39 @@ migrating local tables = migrate_command local tables.parameters tables.surfaces
 abbrev pub demoting : TableMatch → Bool → Bool → Tables → Command
 demoting matching keep_local any_earth tables = demote_command matching keep_local any_earth tables.parameters
 
+abbrev pub lining : LineForm → List Column → Tables → Command
+lining form columns tables = lines_command form columns tables.names
+
+-- lines of fields, with the names of a table where one is asked for
+abbrev pub lines_work : LineForm → List Column → Option (List ℕ) → Work
+lines_work form columns None = Reads (lines_command form columns [])
+lines_work form columns (Some name) = ReadsTables (by_names name) (lining form columns)
+
+abbrev pub filtering_named : List Wanted → List (List ℕ) → Tables → Command
+filtering_named conditions wanted tables = filter_named_command conditions wanted tables.names
+
 -- what each job asks, by the profile of the stated templates
 abbrev pub work_of_job : Job → Work
 work_of_job Check = Reads check_command
 work_of_job Listing = Reads list_command
 work_of_job Keys = Reads keys_command
+work_of_job (Lines form columns names) = lines_work form columns names
 work_of_job Stats = Reads stats_command
 work_of_job (Dump None) = Reads dump_command
 work_of_job (Dump (Some places)) = Reads (value_command places)
 work_of_job (Values format) = Reads (values_command format)
 work_of_job (Filter conditions) = Reads (filter_command conditions)
-work_of_job (Split name) = Reads (split_command name)
-work_of_job (Set changes) = Reads (set_command changes)
+work_of_job (FilterNamed conditions name wanted) = ReadsTables (by_names name) (filtering_named conditions wanted)
+work_of_job (Filter1 conditions) = Reads (filter1_command conditions)
+work_of_job (Split name edition_1) = Reads (split_command edition_1 name)
+work_of_job (Set changes dates) = Reads (set_command dates changes)
+work_of_job (Set1 changes dates) = Reads (set1_command dates changes)
 work_of_job (Repack target) = Reads (repack_command target)
 work_of_job (RepackLeast profile) = Reads (least_command profile)
 work_of_job Rescan = Reads (edit_command edits.Rescan)
 work_of_job (Crop area) = Reads (edit_command (edits.Crop area))
-work_of_job (Migrate params surfaces local) = ReadsTables params surfaces (migrating local)
-work_of_job (Demote params keep_local any_earth matching) = ReadsTables params None (demoting matching keep_local any_earth)
+work_of_job (Migrate params surfaces local) = ReadsTables (by_parameters params surfaces) (migrating local)
+work_of_job (Demote params keep_local any_earth matching) = ReadsTables (by_parameters params None) (demoting matching keep_local any_earth)
 work_of_job (Make seed ni nj target) = Makes (made_answer seed ni nj target)
 work_of_job (Print page) = Makes (writing (text_of page) [])
 
@@ -106,7 +136,7 @@ work_of_job (Print page) = Makes (writing (text_of page) [])
 abbrev pub by_profile : Profile → Work → Work
 by_profile profile (Reads command) = Reads (under profile command)
 by_profile profile (Makes stated) = Makes stated
-by_profile profile (ReadsTables params surfaces commands) = ReadsTables params surfaces (λ tables. under profile (commands tables))
+by_profile profile (ReadsTables asked commands) = ReadsTables asked (λ tables. under profile (commands tables))
 
 abbrev pub work_under : Profile → Job → Work
 work_under profile job = by_profile profile (work_of_job job)
@@ -118,23 +148,23 @@ work_of = work_under profiles.Stated
 abbrev pub IfReads : Work → Option Tables → (Command → Type 0) → Type 0
 IfReads (Reads command) tables P = P command
 IfReads (Makes stated) tables P = Unit {0}
-IfReads (ReadsTables params surfaces commands) None P = Unit {0}
-IfReads (ReadsTables params surfaces commands) (Some tables) P = P (commands tables)
+IfReads (ReadsTables asked commands) None P = Unit {0}
+IfReads (ReadsTables asked commands) (Some tables) P = P (commands tables)
 
 abbrev pub reads_none : Work → Bool
 reads_none (Reads command) = false
 reads_none (Makes stated) = true
-reads_none (ReadsTables params surfaces commands) = false
+reads_none (ReadsTables asked commands) = false
 
 abbrev pub has_table : Work → Bool
 has_table (Reads command) = false
 has_table (Makes stated) = false
-has_table (ReadsTables params surfaces commands) = true
+has_table (ReadsTables asked commands) = true
 
 abbrev pub has_shelf : Work → Bool
 has_shelf (Reads command) = command.uses_shelf
 has_shelf (Makes stated) = false
-has_shelf (ReadsTables params surfaces commands) = true
+has_shelf (ReadsTables asked commands) = true
 
 -- what holds of a job that hears messages of edition 2
 abbrev pub IfHears : Job → Type 0 → Type 0
@@ -147,15 +177,15 @@ abbrev pub plainly : Stated → Answer
 plainly stated = record { acts = stated.acts; ending = []; note = stated.note; outcome = stated.outcome }
 
 -- the answer by what stands under the names of the tables
-abbrev pub answer_by : Both → (Tables → Command) → List ℕ → Answer
-answer_by (BothGood tables) commands input = answer_within (2 ^ 40) (task (commands tables)) input
-answer_by (ParametersRefused refusal) commands input = plainly (ends_at_once (outcomes.TableRefused refusal))
+abbrev pub answer_by : Together → (Tables → Command) → List ℕ → Answer
+answer_by (AllGood tables) commands input = answer_within (2 ^ 40) (task (commands tables)) input
+answer_by (TableRefused refusal) commands input = plainly (ends_at_once (outcomes.TableRefused refusal))
 answer_by (SurfacesRefused refusal) commands input = plainly (ends_at_once (outcomes.SurfacesRefused refusal))
 
 abbrev pub answer_to : Work → Texts → List ℕ → Answer
 answer_to (Reads command) texts input = answer_within (2 ^ 40) (task command) input
 answer_to (Makes stated) texts input = plainly stated
-answer_to (ReadsTables params surfaces commands) texts input = answer_by (both surfaces texts) commands input
+answer_to (ReadsTables asked commands) texts input = answer_by (together asked texts) commands input
 
 -- whether a job reads no input
 abbrev pub makes : Job → Bool

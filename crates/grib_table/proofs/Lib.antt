@@ -1,3 +1,3 @@
 pub mod Fronts
 pub mod TableReading
-pub mod BothTables
+pub mod TablesTogether

@@ -14,8 +14,10 @@ use Rattle.grib_params.specs.Table.{Verdict, table_verdict, verdict_from, IsFaul
 use Rattle.grib_params.specs.Surfaces as surfaces
 use Rattle.grib_params.specs.Surfaces.{SurfaceVerdict, surface_verdict, surface_verdict_from, IsSurfaceFault}
 use Rattle.grib_params.specs.declared.table.TheConstants.{MOST_OCTETS}
+use Rattle.grib_names.specs.Table as names
+use Rattle.grib_names.specs.Table.{NameVerdict, names_verdict, names_verdict_from, IsNamesFault}
 use Rattle.grib_table.specs.Fronts.{Tells, IsTaken, NoneRead}
-use Rattle.grib_table.specs.Tabled.{Tabled, Good, Refused, tabled, tabled_by, surfaces_by, parameters_of, surfaces_of, Stood, ReadsTable, stop_of_fault}
+use Rattle.grib_table.specs.Tabled.{Tabled, Good, Refused, tabled, tabled_by, surfaces_by, names_by, parameters_of, surfaces_of, names_of, Stood, ReadsTable, stop_of_fault}
 use Rattle.grib_table.specs.declared.stop.TableStop.{TableStop}
 use Rattle.grib_table.specs.declared.stop.TableStop.TheVariants.{Refused as Refuses, ShelfFault, Memory}
 use Rattle.grib_table.specs.declared.reading.TheConstants.{MOST}
@@ -39,6 +41,12 @@ no_surfaces_by verdict (faults.Row number) is = ap surfaces_by is
 no_surfaces_by verdict (faults.Duplicate number) is = ap surfaces_by is
 no_surfaces_by verdict faults.Memory is = tt
 
+pub no_names_by : (verdict : NameVerdict) (fault : TableFault) → IsNamesFault verdict fault → IsNone (names_by verdict) fault
+no_names_by verdict faults.TooLarge is = ap names_by is
+no_names_by verdict (faults.Row number) is = ap names_by is
+no_names_by verdict (faults.Duplicate number) is = ap names_by is
+no_names_by verdict faults.Memory is = tt
+
 -- texts of more octets than a table may have are none, whatever stands in them
 abbrev pub IsFew : {T : Type 0} → (List ℕ → Tabled T) → Type 0
 IsFew table_of = (text : List ℕ) → MOST_OCTETS < length text → table_of text ≡ Refused refusals.TooLarge
@@ -49,6 +57,10 @@ few_parameters text long = ap (λ b. tabled_by (if b then verdicts.TooLarge else
 pub few_surfaces : IsFew surfaces_of
 few_surfaces text long =
     ap (λ b. surfaces_by (if b then surfaces.TooLarge else surface_verdict_from 0 [] (records_of text))) (lt-ltb MOST_OCTETS (length text) long)
+
+pub few_names : IsFew names_of
+few_names text long =
+    ap (λ b. names_by (if b then names.TooLarge else names_verdict_from 0 [] (records_of text))) (lt-ltb MOST_OCTETS (length text) long)
 
 absent_table : {T : Type 0} (table_of : List ℕ → Tabled T) (shelf : Option Held) (name : List ℕ) → Tells shelf name (λ text. text ≡ None)
     → (text : Option (List ℕ)) × Stood shelf name text × (tabled table_of text ≡ Refused refusals.Absent)

@@ -1,4 +1,4 @@
--- What stands on a shelf under a name as a table: as a parameter table, or as a table of surfaces.
+-- What stands on a shelf under a name as a table: as a parameter table, a table of surfaces or a table of names.
 use Rattle.std.specs.Prelude.{◌≡◌, ℕ, List, Option, Some, None, Ok, Err}
 use Rattle.std.specs.declared.result.Result.{Result}
 use Rattle.grib_reasons.specs.declared.table.TableRefusal.{TableRefusal}
@@ -13,6 +13,8 @@ use Rattle.grib_params.specs.Table as verdicts
 use Rattle.grib_params.specs.Table.{Entries, Verdict, table_verdict}
 use Rattle.grib_params.specs.Surfaces as surfaces
 use Rattle.grib_params.specs.Surfaces.{SurfaceEntries, SurfaceVerdict, surface_verdict}
+use Rattle.grib_names.specs.Table as names
+use Rattle.grib_names.specs.Table.{NameEntries, NameVerdict, names_verdict}
 use Rattle.grib_table.specs.declared.stop.TableStop.{TableStop}
 use Rattle.grib_table.specs.declared.stop.TableStop.TheVariants.{Refused as Refuses, ShelfFault, Memory}
 
@@ -34,12 +36,21 @@ surfaces_by (surfaces.Row number) = Refused (refusals.Row number)
 surfaces_by (surfaces.Duplicate number) = Refused (refusals.Duplicate number)
 surfaces_by (surfaces.Good table) = Good table
 
--- a text as a parameter table, and as a table of surfaces
+abbrev pub names_by : NameVerdict → Tabled NameEntries
+names_by names.TooLarge = Refused refusals.TooLarge
+names_by (names.Row number) = Refused (refusals.Row number)
+names_by (names.Duplicate number) = Refused (refusals.Duplicate number)
+names_by (names.Good table) = Good table
+
+-- a text as a parameter table, as a table of surfaces, and as a table of names
 abbrev pub parameters_of : List ℕ → Tabled Entries
 parameters_of text = tabled_by (table_verdict text)
 
 abbrev pub surfaces_of : List ℕ → Tabled SurfaceEntries
 surfaces_of text = surfaces_by (surface_verdict text)
+
+abbrev pub names_of : List ℕ → Tabled NameEntries
+names_of text = names_by (names_verdict text)
 
 -- what stands under a name, None where the name is absent
 abbrev pub tabled : {T : Type 0} → (List ℕ → Tabled T) → Option (List ℕ) → Tabled T

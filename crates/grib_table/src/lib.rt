@@ -1,9 +1,10 @@
-//! The tables that stand on a shelf under their names: a parameter table, and a table of surfaces.
+//! The tables that stand on a shelf under their names: a parameter table, a table of surfaces and a table of
+//! names.
 #![tactic(auto)]
 
-mod both;
 mod reading;
 mod stop;
+mod together;
 
-pub use both::{Tables, read_tables};
 pub use stop::TablesStop;
+pub use together::{Tables, read_tables};

@@ -3,10 +3,11 @@
 ghost use Rattle.std.specs.Prelude.{◌≡◌, ◌<◌, length, MatchResult};
 ghost use Rattle.grib_io.specs.Shelves.{Stays};
 ghost use Rattle.grib_table.specs.Fronts.{Tells, IsTaken, MoreRead, NoneRead, ReadWhole};
-ghost use Rattle.grib_table.specs.Tabled.{ReadsTable, CountsTable, parameters_of, surfaces_of};
+ghost use Rattle.grib_table.specs.Tabled.{ReadsTable, CountsTable, names_of, parameters_of, surfaces_of};
 
 use crate::stop::TableStop;
 use grib_io::Shelf;
+use grib_names::NameTable;
 use grib_params::{MOST_OCTETS, SurfaceTable, Table};
 use std::alloc::Global;
 
@@ -49,6 +50,25 @@ pub(crate) fn read_surfaces<H: Shelf>(
 {
     let text = read_text(alloc, name, shelf)?;
     Ok(SurfaceTable::read(alloc, text.as_slice())?)
+}
+
+/// Reads the table of names that stands on the shelf under this name, as far as one octet more than a table may have.
+/// The shelf keeps what it holds.
+///
+/// # Errors
+///
+/// The name is absent, what stands there is no table, the shelf failed, or there is no memory.
+pub(crate) fn read_names<H: Shelf>(
+    alloc: Global,
+    name: &str,
+    shelf: &mut H,
+) -> Result<NameTable, TableStop>
+    ensures read { ReadsTable names_of result (H.contents shelf.old) name.now }
+    ensures kept { Stays (H.contents shelf.old) (H.contents shelf.new) }
+    ensures counted { CountsTable result (H.faults shelf.old) (H.faults shelf.new) }
+{
+    let text = read_text(alloc, name, shelf)?;
+    Ok(NameTable::parse(alloc, text.as_slice())?)
 }
 
 /// Reads the first octets under this name, no more than `MOST`.

@@ -2,7 +2,7 @@
 
 ghost use Rattle.std.specs.Prelude.{◌≡◌};
 ghost use Rattle.grib_table.specs.Tabled.{stop_of_fault, stop_of_shelf};
-ghost use Rattle.grib_table.specs.Both.{parameters_stop};
+ghost use Rattle.grib_table.specs.Together.{table_stop};
 ghost use Rattle.grib_table.specs.declared.stop.TableStop.TheVariants.{Memory};
 
 use grib_io::ShelfStop;
@@ -60,7 +60,7 @@ impl From<TableFault> for TableStop {
 /// Why no tables are read.
 #[derive(Clone, Copy, Debug, PartialEq, Eq, Error)]
 pub enum TablesStop {
-    /// The name of the parameter table is absent, or what stands under it is no table.
+    /// The name of the parameter table or of the table of names is absent, or what stands under it is no table.
     #[error("{0}")]
     Refused(TableRefusal),
     /// The name of the table of surfaces is absent, or what stands under it is no table.
@@ -75,7 +75,7 @@ pub enum TablesStop {
 }
 
 impl From<TableStop> for TablesStop {
-    ghost from_gives = { λ table stop. stop ≡ parameters_stop table };
+    ghost from_gives = { λ table stop. stop ≡ table_stop table };
 
     fn from(stop: TableStop) -> TablesStop {
         match stop {

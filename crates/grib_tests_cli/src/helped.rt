@@ -136,6 +136,124 @@ const VALUES_AT_FAULT: [(&str, &str); 11] = [
     ),
 ];
 
+const EDITIONS_AT_FAULT: [(&str, &str); 7] = [
+    (
+        "help filter Centre=98 year=2024",
+        "word 2 \"year=2024\": year is of edition 2, and a word before it of edition 1; write those of one edition\n",
+    ),
+    (
+        "help set year=2024 kept=copy Centre=98",
+        "word 3 \"Centre=98\": Centre is of edition 1, and a word before it of edition 2; write those of one edition\n",
+    ),
+    (
+        "help filter name=TMP Level!=1..5 names=t",
+        "word 2 \"Level!=1..5\": Level! is of edition 1, and a word before it of edition 2; write those of one edition\n",
+    ),
+    (
+        "help filter levelType=100",
+        "word 1 \"levelType=100\": no key has this name; nearest: LevelType; all keys: grib help keys\n",
+    ),
+    (
+        "help filter CENTRE=98",
+        "word 1 \"CENTRE=98\": no key has this name; nearest: centre; all keys: grib help keys\n",
+    ),
+    (
+        "help set Flags=128",
+        "word 1 \"Flags=128\": Flags is fixed, and cannot be set; all keys: grib help keys\n",
+    ),
+    (
+        "help stats Centre=98",
+        "word 1 \"Centre=98\": stats takes no key; write grib filter Centre=98 < FILE | grib stats\n",
+    ),
+];
+
+const MORE_AT_FAULT: [(&str, &str); 9] = [
+    (
+        "help set Centre=missing",
+        "word 1 \"Centre=missing\": Centre is a whole number without zeros before it, as 98 or 0\n",
+    ),
+    (
+        "help set month=2 dates=any",
+        "word 2 \"dates=any\": dates is valid\n",
+    ),
+    (
+        "help split out=p editions=1",
+        "word 2 \"editions=1\": editions is both\n",
+    ),
+    (
+        "help list with=centre,level",
+        "word 1 \"with=centre,level\": with is one or more of the keys, at and octets, with commas between them; all keys: grib help keys\n",
+    ),
+    (
+        "help keys show",
+        "word 1 \"show\": show wants a value; write show=VALUE\n",
+    ),
+    (
+        "help keys with=year",
+        "word 1 \"with=year\": keys has no with=; its words: grib help keys\n",
+    ),
+    (
+        "help filter name=T+ names=t",
+        "word 1 \"name=T+\": name is one or more names with commas between them, each of 1 to 32 letters, digits, _ and -\n",
+    ),
+    (
+        "help filter name=TMP names=",
+        "word 2 \"names=\": names is the name of a file\n",
+    ),
+    (
+        "help filter names=t names=u",
+        "word 2 \"names=u\": names= stands before; each name stands once\n",
+    ),
+];
+
+const MORE_WANTED: [(&str, &str); 4] = [
+    ("help filter name=TMP", "filter wants names= beside name=\n"),
+    (
+        "help filter names=t centre=98",
+        "filter wants name= beside names=\n",
+    ),
+    ("help split editions=both", "split wants out=\n"),
+    (
+        "help set dates=valid",
+        "set wants a key with its value, as centre=98; all keys: grib help keys\n",
+    ),
+];
+
+const MORE_DONE: [(&str, &str); 8] = [
+    (
+        "help list with=at,year names=t",
+        "grib list with=at,year names=t: writes a line for each field, with these columns and the name of its parameter by this table.\n",
+    ),
+    (
+        "help list names=t refused=pass",
+        "grib list names=t refused=pass: writes a line for each field, with the name of its parameter by this table, and skips what is refused.\n",
+    ),
+    (
+        "help keys show=year",
+        "grib keys show=year: writes for each field the values of these columns.\n",
+    ),
+    (
+        "help filter Centre=98",
+        "grib filter Centre=98: copies the messages of edition 1 that have all these values.\n",
+    ),
+    (
+        "help filter name=TMP names=t",
+        "grib filter name=TMP names=t: copies the fields whose parameter has one of these names by this table, and that have all these values.\n",
+    ),
+    (
+        "help set Centre=98 dates=valid kept=copy",
+        "grib set Centre=98 dates=valid kept=copy: writes each message of edition 1 with these values of keys, and all else as it is, where its reference time is then a date and time, and copies a message that it cannot change.\n",
+    ),
+    (
+        "help set centre=98",
+        "grib set centre=98: writes each message with these values of keys, and all else as it is.\n",
+    ),
+    (
+        "help split out=p editions=both",
+        "grib split out=p editions=both: writes the n-th field, of either edition, to the file of this name with .n behind it.\n",
+    ),
+];
+
 const WANTED: [(&str, &str); 7] = [
     ("help crop i0=0 i1=9", "crop wants j0= and j1=\n"),
     (
@@ -193,7 +311,15 @@ const DONE: [(&str, &str); 8] = [
     ),
 ];
 
-const TEXTS: [(&str, &str); 6] = [
+const TEXTS: [(&str, &str); 8] = [
+    (
+        "help SubCentre",
+        "SubCentre           edition 1, octet 26: originating sub-centre\n",
+    ),
+    (
+        "help Centre",
+        "Centre              edition 1, octet 5: originating centre\nCentre              loss of demote: centre or sub-centre is over 255\n",
+    ),
     (
         "help centre",
         "centre              Section 1, octets 6-7: originating centre\n",
@@ -223,7 +349,7 @@ const TEXTS: [(&str, &str); 6] = [
 const PAGES: [(&str, &str); 4] = [
     (
         "help keys",
-        "keys [refused=pass] [profile=open]: For each field every key",
+        "keys [show=COLUMNS] [names=FILE] [refused=pass] [profile=open]: For each field every key",
     ),
     (
         "help refusals",
@@ -235,7 +361,7 @@ const PAGES: [(&str, &str); 4] = [
     ),
     (
         "help filter",
-        "filter KEY=VALUES .. KEY!=VALUES .. [refused=copy|pass] [kept=copy|pass] [profile=open]: The fields",
+        "filter KEY=VALUES .. KEY!=VALUES .. [name=NAMES names=FILE] [refused=copy|pass] [kept=copy|pass] [profile=open]: The fields",
     ),
 ];
 
@@ -248,6 +374,25 @@ fn the_word_at_fault_is_told(rt: HostRuntime) -> Result<(), Fail> {
 #[test]
 fn the_value_at_fault_is_told(rt: HostRuntime) -> Result<(), Fail> {
     assert!(rt; are_told(rt.alloc(), &VALUES_AT_FAULT)?);
+    Ok(())
+}
+
+#[test]
+fn the_other_edition_is_told(rt: HostRuntime) -> Result<(), Fail> {
+    assert!(rt; are_told(rt.alloc(), &EDITIONS_AT_FAULT)?);
+    Ok(())
+}
+
+#[test]
+fn more_faults_are_told(rt: HostRuntime) -> Result<(), Fail> {
+    assert!(rt; are_told(rt.alloc(), &MORE_AT_FAULT)?);
+    assert!(rt; are_told(rt.alloc(), &MORE_WANTED)?);
+    Ok(())
+}
+
+#[test]
+fn what_more_lines_would_do_is_told(rt: HostRuntime) -> Result<(), Fail> {
+    assert!(rt; are_told(rt.alloc(), &MORE_DONE)?);
     Ok(())
 }
 

@@ -1,4 +1,4 @@
-//! Tests of the command: its arguments, and its runs over inputs in memory. Expected values are from outside,
+//! Tests of the command: what `help` says, and its runs over inputs in memory. Expected values are from outside,
 //! worked by hand or made by another program.
 #![tactic(auto)]
 
@@ -9,8 +9,8 @@ mod heard;
 #[cfg(test)]
 mod helped;
 #[cfg(test)]
+mod lists;
+#[cfg(test)]
 mod pages;
 #[cfg(test)]
 mod runs;
-#[cfg(test)]
-mod words;

@@ -7,15 +7,15 @@ use std::test::Fail;
 
 const HELP: &str = "\
 grib check                                        lines on messages and input\n\
-grib list                                         a line for each field\n\
-grib keys                                         the keys of each field\n\
+grib list [with=KEY,..] [names=FILE]              a line for each field\n\
+grib keys [show=KEY,..] [names=FILE]              the keys of each field\n\
 grib dump [decimals=0..18]                        the points of each field\n\
 grib values [as=f8|f4]                            fields as arrays of NumPy\n\
 grib stats                                        counts and extremes of fields\n\
-grib filter KEY=VALUE ..                          fields that have these values\n\
-grib split out=NAME                               fields as files NAME.1, NAME.2\n\
-grib set KEY=VALUE ..                             new values of keys\n\
-grib repack to=0|2|3|least [order=1|2]            fields packed anew\n\
+grib filter KEY=VALUE .. [name=N,.. names=FILE]   fields that have these values\n\
+grib split out=NAME [editions=both]               fields as files NAME.1, NAME.2\n\
+grib set KEY=VALUE .. [dates=valid]               new values of keys\n\
+grib repack to=0|2|3|42|least [order=1|2]         fields packed anew\n\
 grib migrate params=FILE [local=keep|ecmwf]       edition 1 to edition 2\n\
 grib migrate .. [surfaces=FILE]                   names that say their level\n\
 grib demote params=FILE [local=keep] [earth=any]  edition 2 to edition 1\n\

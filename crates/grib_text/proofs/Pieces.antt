@@ -7,7 +7,7 @@ use Rattle.grib_base.specs.Reason.{name_of}
 use Rattle.grib_dyadic.specs.Reference.{Binary}
 use Rattle.grib_text.specs.Words.{filled_decimal}
 use Rattle.grib2_message.specs.declared.summary.FieldSummary.{FieldSummary}
-use Rattle.grib_text.specs.Lines.{reference_line, time_of, time_text, origin_of, grid_of, instant_of, product_text, known_bits, packing_of, summary_line}
+use Rattle.grib_text.specs.Lines.{reference_line, time_of, time_text, origin_of, grid_of, instant_of, product_text, known_bits, packing_of, summary_text}
 use Rattle.grib_text.specs.Notes.{refusal_text}
 
 refusal_text-regroup : (a b c d : List ℕ) → a ++ (codes " octet " ++ (b ++ (codes " " ++ (c ++ (codes " " ++ (d ++ 10 ∷ [])))))) ≡ a ++ codes " octet " ++ b ++ codes " " ++ c ++ codes " " ++ d ++ 10 ∷ []
@@ -58,13 +58,13 @@ pub time_of-pieces : (y m d h i s : ℕ) (ys ms ds hs is ss : List ℕ) → IsTi
 time_of-pieces y m d h i s ys ms ds hs is ss t =
     rw (t.year, t.month, t.day, t.hour, t.minute, t.second) (time_of-regroup (filled_decimal 4 y) (filled_decimal 2 m) (filled_decimal 2 d) (filled_decimal 2 h) (filled_decimal 2 i) (filled_decimal 2 s))
 
-summary_line-regroup : (m i o g p k : List ℕ) → m ++ (codes "." ++ (i ++ (codes " ed=2 " ++ (o ++ (codes " " ++ (g ++ (codes " " ++ (p ++ (codes " " ++ (k ++ 10 ∷ [])))))))))) ≡ m ++ codes "." ++ i ++ codes " ed=2 " ++ o ++ codes " " ++ g ++ codes " " ++ p ++ codes " " ++ k ++ 10 ∷ []
-summary_line-regroup m i o g p k = simp append_assoc
+summary_text-regroup : (m i o g p k : List ℕ) → m ++ (codes "." ++ (i ++ (codes " ed=2 " ++ (o ++ (codes " " ++ (g ++ (codes " " ++ (p ++ (codes " " ++ k))))))))) ≡ m ++ codes "." ++ i ++ codes " ed=2 " ++ o ++ codes " " ++ g ++ codes " " ++ p ++ codes " " ++ k
+summary_text-regroup m i o g p k = simp append_assoc
 
-pub summary_line-pieces : (m i : ℕ) (s : FieldSummary) (o g p k : List ℕ) → o ≡ origin_of s.identification.centre (time_text s.identification) → g ≡ grid_of s.grid s.points → p ≡ product_text s → k ≡ packing_of s.packing (known_bits s) s.values
-    → decimal m ++ (codes "." ++ (decimal i ++ (codes " ed=2 " ++ (o ++ (codes " " ++ (g ++ (codes " " ++ (p ++ (codes " " ++ (k ++ 10 ∷ [])))))))))) ≡ summary_line s m i
-summary_line-pieces m i s o g p k e f h j =
-    rw (e, f, h, j) (summary_line-regroup (decimal m) (decimal i) (origin_of s.identification.centre (time_text s.identification)) (grid_of s.grid s.points) (product_text s) (packing_of s.packing (known_bits s) s.values))
+pub summary_text-pieces : (m i : ℕ) (s : FieldSummary) (o g p k : List ℕ) → o ≡ origin_of s.identification.centre (time_text s.identification) → g ≡ grid_of s.grid s.points → p ≡ product_text s → k ≡ packing_of s.packing (known_bits s) s.values
+    → decimal m ++ (codes "." ++ (decimal i ++ (codes " ed=2 " ++ (o ++ (codes " " ++ (g ++ (codes " " ++ (p ++ (codes " " ++ k))))))))) ≡ summary_text s m i
+summary_text-pieces m i s o g p k e f h j =
+    rw (e, f, h, j) (summary_text-regroup (decimal m) (decimal i) (origin_of s.identification.centre (time_text s.identification)) (grid_of s.grid s.points) (product_text s) (packing_of s.packing (known_bits s) s.values))
 
 instant_of-regroup : (u a s : List ℕ) → codes "unit=" ++ (u ++ (codes " ahead=" ++ (a ++ (codes " surface=" ++ s)))) ≡ codes "unit=" ++ u ++ codes " ahead=" ++ a ++ codes " surface=" ++ s
 instant_of-regroup u a s = simp append_assoc

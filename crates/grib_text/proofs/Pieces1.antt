@@ -5,7 +5,7 @@ use Rattle.std.specs.Int.{is_negative}
 use Rattle.std.specs.Fmt.{decimal, padded_integral, format_spec, char_count}
 use Rattle.grib_dyadic.proofs.Signs.{is_negative_iff}
 use Rattle.grib_text.specs.Words.{filled_decimal, filled_signed_decimal}
-use Rattle.grib_text.specs.Lines1.{time1_of, product1_of, origin1_text, grid1_text, product1_text, packing1_text, list_line1}
+use Rattle.grib_text.specs.Lines1.{time1_of, product1_of, origin1_text, grid1_text, product1_text, packing1_text, list_text1}
 use Rattle.grib_text.proofs.Pieces.{padded-filled_decimal}
 
 -- what `{:04}` and the like print of a number with sign
@@ -39,12 +39,12 @@ pub time1_of-pieces : (y : ℤ) (m d h i : ℕ) (ys ms ds hs is : List ℕ) → 
 time1_of-pieces y m d h i ys ms ds hs is t =
     rw (t.year, t.month, t.day, t.hour, t.minute) (time1_of-regroup (filled_signed_decimal 4 y) (filled_decimal 2 m) (filled_decimal 2 d) (filled_decimal 2 h) (filled_decimal 2 i))
 
-list_line1-regroup : (m o g p k : List ℕ) → m ++ (codes ".1 ed=1 " ++ (o ++ (codes " " ++ (g ++ (codes " " ++ (p ++ (codes " " ++ (k ++ 10 ∷ [])))))))) ≡ m ++ codes ".1 ed=1 " ++ o ++ codes " " ++ g ++ codes " " ++ p ++ codes " " ++ k ++ 10 ∷ []
-list_line1-regroup m o g p k = simp append_assoc
+list_text1-regroup : (m o g p k : List ℕ) → m ++ (codes ".1 ed=1 " ++ (o ++ (codes " " ++ (g ++ (codes " " ++ (p ++ (codes " " ++ k))))))) ≡ m ++ codes ".1 ed=1 " ++ o ++ codes " " ++ g ++ codes " " ++ p ++ codes " " ++ k
+list_text1-regroup m o g p k = simp append_assoc
 
-pub list_line1-pieces : (message : List ℕ) (m : ℕ) (o g p k : List ℕ) → o ≡ origin1_text message → g ≡ grid1_text message → p ≡ product1_text message → k ≡ packing1_text message → decimal m ++ (codes ".1 ed=1 " ++ (o ++ (codes " " ++ (g ++ (codes " " ++ (p ++ (codes " " ++ (k ++ 10 ∷ [])))))))) ≡ list_line1 message m
-list_line1-pieces message m o g p k e f h j =
-    rw (e, f, h, j) (list_line1-regroup (decimal m) (origin1_text message) (grid1_text message) (product1_text message) (packing1_text message))
+pub list_text1-pieces : (message : List ℕ) (m : ℕ) (o g p k : List ℕ) → o ≡ origin1_text message → g ≡ grid1_text message → p ≡ product1_text message → k ≡ packing1_text message → decimal m ++ (codes ".1 ed=1 " ++ (o ++ (codes " " ++ (g ++ (codes " " ++ (p ++ (codes " " ++ k))))))) ≡ list_text1 message m
+list_text1-pieces message m o g p k e f h j =
+    rw (e, f, h, j) (list_text1-regroup (decimal m) (origin1_text message) (grid1_text message) (product1_text message) (packing1_text message))
 
 product1_of-regroup : (v p u r a b t l : List ℕ) → (codes "param=" ++ (v ++ (codes "." ++ (p ++ (codes " unit=" ++ (u ++ (codes " range=" ++ (r ++ (codes " p1=" ++ (a ++ (codes " p2=" ++ b))))))))))) ++ (codes " level=" ++ (t ++ (codes ":" ++ l))) ≡ codes "param=" ++ v ++ codes "." ++ p ++ codes " unit=" ++ u ++ codes " range=" ++ r ++ codes " p1=" ++ a ++ codes " p2=" ++ b ++ codes " level=" ++ t ++ codes ":" ++ l
 product1_of-regroup v p u r a b t l = simp append_assoc

@@ -23,10 +23,12 @@ abbrev pub words_text : List ℕ → ℕ → List Key → List ℕ
 words_text message i [] = []
 words_text message i (key ∷ keys) = word_text key (key_value_of message i key) ++ words_text message i keys
 
--- of field i of message m, of edition 2: each key that the field has
+-- of field i of message m, of edition 2: each key that the field has; without the newline and with it
+abbrev pub keys_text : List ℕ → ℕ → ℕ → List ℕ
+keys_text message m i = decimal m ++ codes "." ++ decimal i ++ codes " ed=2" ++ words_text message i keys
+
 abbrev pub keys_line : List ℕ → ℕ → ℕ → List ℕ
-keys_line message m i =
-    decimal m ++ codes "." ++ decimal i ++ codes " ed=2" ++ words_text message i keys ++ 10 ∷ []
+keys_line message m i = keys_text message m i ++ 10 ∷ []
 
 -- a number of Section 1 behind a space and its name
 abbrev pub number_text : List ℕ → Key1 → List ℕ
@@ -37,6 +39,9 @@ abbrev pub numbers_text : List ℕ → List Key1 → List ℕ
 numbers_text message [] = []
 numbers_text message (key ∷ keys) = number_text message key ++ numbers_text message keys
 
--- of message m, of edition 1: the numbers of Section 1
+-- of message m, of edition 1: the numbers of Section 1; without the newline and with it
+abbrev pub keys_text1 : List ℕ → ℕ → List ℕ
+keys_text1 message m = decimal m ++ codes ".1 ed=1" ++ numbers_text message keys1
+
 abbrev pub keys_line1 : List ℕ → ℕ → List ℕ
-keys_line1 message m = decimal m ++ codes ".1 ed=1" ++ numbers_text message keys1 ++ 10 ∷ []
+keys_line1 message m = keys_text1 message m ++ 10 ∷ []

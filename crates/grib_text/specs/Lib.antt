@@ -5,3 +5,6 @@ pub mod Lines1
 pub mod Stats
 pub mod Values
 pub mod KeyLines
+pub mod Named
+pub mod Columns
+pub mod Cells

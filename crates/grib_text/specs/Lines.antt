@@ -84,16 +84,22 @@ packing_of template None values = codes "packing=5." ++ decimal template ++ code
 packing_of template (Some bits) values =
     codes "packing=5." ++ decimal template ++ codes " bits=" ++ decimal bits ++ codes " values=" ++ decimal values
 
--- of field i of message m, by what describes it
-abbrev pub summary_line : FieldSummary → ℕ → ℕ → List ℕ
-summary_line s m i =
+-- of field i of message m, by what describes it, without its newline and with it
+abbrev pub summary_text : FieldSummary → ℕ → ℕ → List ℕ
+summary_text s m i =
     decimal m ++ codes "." ++ decimal i ++ codes " ed=2 " ++ origin_of s.identification.centre (time_text s.identification)
     ++ codes " " ++ grid_of s.grid s.points ++ codes " " ++ product_text s
-    ++ codes " " ++ packing_of s.packing (known_bits s) s.values ++ 10 ∷ []
+    ++ codes " " ++ packing_of s.packing (known_bits s) s.values
+
+abbrev pub summary_line : FieldSummary → ℕ → ℕ → List ℕ
+summary_line s m i = summary_text s m i ++ 10 ∷ []
 
 -- of field i of message m
+abbrev pub list_text : List ℕ → ℕ → ℕ → List ℕ
+list_text message m i = summary_text (summary_of message i) m i
+
 abbrev pub list_line : List ℕ → ℕ → ℕ → List ℕ
-list_line message m i = summary_line (summary_of message i) m i
+list_line message m i = list_text message m i ++ 10 ∷ []
 
 -- a reduced reference value, and the scale factors E and D
 abbrev pub reference_line : Binary → ℤ → ℤ → List ℕ

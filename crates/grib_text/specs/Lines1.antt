@@ -56,8 +56,11 @@ packing1_of bits values = codes "bits=" ++ decimal bits ++ codes " values=" ++ d
 abbrev pub packing1_text : List ℕ → List ℕ
 packing1_text message = packing1_of (bit_width (data_section message)) (values_of message)
 
--- of message m
-abbrev pub list_line1 : List ℕ → ℕ → List ℕ
-list_line1 message m =
+-- of message m, without its newline and with it
+abbrev pub list_text1 : List ℕ → ℕ → List ℕ
+list_text1 message m =
     decimal m ++ codes ".1 ed=1 " ++ origin1_text message ++ codes " " ++ grid1_text message
-    ++ codes " " ++ product1_text message ++ codes " " ++ packing1_text message ++ 10 ∷ []
+    ++ codes " " ++ product1_text message ++ codes " " ++ packing1_text message
+
+abbrev pub list_line1 : List ℕ → ℕ → List ℕ
+list_line1 message m = list_text1 message m ++ 10 ∷ []

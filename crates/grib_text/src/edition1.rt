@@ -1,6 +1,6 @@
 //! The line of `list` for messages of edition 1.
 
-ghost use Rattle.std.specs.Prelude.{◌≡◌, ◌<◌, ◌^◌, Some, IfOk};
+ghost use Rattle.std.specs.Prelude.{◌≡◌, ◌<◌, ◌^◌, Some, string_bytes, IfOk};
 ghost use Rattle.grib1_sections.specs.declared.key.Key1.TheVariants.{Version, Centre, Parameter, LevelType, Level, YearOfCentury, Month, Day, Hour, Minute, Unit as TimeUnit, P1, P2, TimeRange, Century};
 ghost use Rattle.grib1_sections.specs.Keys.{key1_of};
 ghost use Rattle.grib1_sections.specs.Grid.{grid_type};
@@ -17,12 +17,24 @@ use std::fmt;
 pub fn list_line1(alloc: Global, message: &Message1<'_>, number: u64) -> Result<Vec<u8>, AllocError>
     ensures { IfOk result (λ line. line.items ≡ lines.list_line1 message.now number) }
 {
+    let mut line = list_text1(alloc, message, number)?;
+    line.push('\n')?;
+    Ok(line.into_bytes())
+}
+
+/// The same without its newline.
+pub(crate) fn list_text1(
+    alloc: Global,
+    message: &Message1<'_>,
+    number: u64,
+) -> Result<String, AllocError>
+    ensures { IfOk result (λ text. string_bytes text ≡ lines.list_text1 message.now number) }
+{
     let origin = Origin::read(message);
     let grid = Grid::read(message);
     let product = Product::read(message);
     let packing = Packing::read(message);
-    let line = format!(in alloc; "{number}.1 ed=1 {origin} {grid} {product} {packing}\n")?;
-    Ok(line.into_bytes())
+    format!(in alloc; "{number}.1 ed=1 {origin} {grid} {product} {packing}")
 }
 
 /// Where and for when a field was made.

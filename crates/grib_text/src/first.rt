@@ -12,10 +12,22 @@ use std::alloc::{AllocError, Global};
 pub fn keys_line1(alloc: Global, message: &Message1<'_>, number: u64) -> Result<Vec<u8>, AllocError>
     ensures { IfOk result (λ line. line.items ≡ lines.keys_line1 message.now number) }
 {
-    let mut line = format!(in alloc; "{number}.1 ed=1")?;
-    write_numbers(&mut line, message)?;
+    let mut line = keys_text1(alloc, message, number)?;
     line.push('\n')?;
     Ok(line.into_bytes())
+}
+
+/// The same without its newline.
+pub(crate) fn keys_text1(
+    alloc: Global,
+    message: &Message1<'_>,
+    number: u64,
+) -> Result<String, AllocError>
+    ensures { IfOk result (λ text. string_bytes text ≡ lines.keys_text1 message.now number) }
+{
+    let mut text = format!(in alloc; "{number}.1 ed=1")?;
+    write_numbers(&mut text, message)?;
+    Ok(text)
 }
 
 /// Writes the numbers of Section 1.

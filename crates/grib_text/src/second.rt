@@ -22,10 +22,25 @@ pub fn keys_line(
     requires last { field ≤ field_count message.now }
     ensures { IfOk result (λ line. line.items ≡ lines.keys_line message.now number field) }
 {
-    let mut line = format!(in alloc; "{number}.{field} ed=2")?;
-    write_words(&mut line, message, field)?;
+    let mut line = keys_text(alloc, message, number, field)?;
     line.push('\n')?;
     Ok(line.into_bytes())
+}
+
+/// The same without its newline.
+pub(crate) fn keys_text(
+    alloc: Global,
+    message: &Message<'_>,
+    number: u64,
+    field: u32,
+) -> Result<String, AllocError>
+    requires first { 1 ≤ field }
+    requires last { field ≤ field_count message.now }
+    ensures { IfOk result (λ text. string_bytes text ≡ lines.keys_text message.now number field) }
+{
+    let mut text = format!(in alloc; "{number}.{field} ed=2")?;
+    write_words(&mut text, message, field)?;
+    Ok(text)
 }
 
 /// Writes the keys that the field has, each with its value.

@@ -6,7 +6,7 @@ use Rattle.std.specs.Char.{to_ascii_lowercase}
 use Rattle.strsim.specs.Edits.{levenshtein_row}
 use Rattle.grib_topics.specs.Elsewhere.{keys_for}
 use Rattle.grib_topics.specs.Topics as topics
-use Rattle.grib_topics.specs.Topics.{command_texts, key_texts}
+use Rattle.grib_topics.specs.Topics.{command_texts, key_texts, first_key_texts}
 
 abbrev pub first_word : List ℕ → List ℕ
 first_word text = topics.first_word text
@@ -32,13 +32,17 @@ nearer word best name =
     let count = changes word name in
     cond (nat_lt count best.changes && nat_lt count (length name)) (seen name count) best
 
--- the first word of one of these texts that is nearest to a word, where no more than three letters change
-abbrev pub nearest : List ℕ → List (List ℕ) → List ℕ
-nearest word texts = (fold (nearer word) (seen [] 4) (map first_word texts)).name
+-- nothing yet: a name counts where no more than three letters change
+abbrev pub none : Seen
+none = seen [] 4
 
--- the name of a key that is nearest to a word
+-- the nearest to a word of this name and the first words of these texts, the first where several are as near
+abbrev pub nearest : List ℕ → Seen → List (List ℕ) → Seen
+nearest word best texts = fold (nearer word) best (map first_word texts)
+
+-- the name of a key that is nearest to a word: of edition 2, or of edition 1 where that is nearer
 unfoldable pub nearest_name : List ℕ → List ℕ
-nearest_name word = nearest word (drop 1 key_texts)
+nearest_name word = (nearest word (nearest word none (drop 1 key_texts)) (drop 1 first_key_texts)).name
 
 -- some keys, or where there are none, the one whose name is nearest
 abbrev pub or_nearest : List ℕ → List ℕ → List ℕ
@@ -48,4 +52,4 @@ unfoldable pub nearest_key : List ℕ → List ℕ
 nearest_key word = or_nearest (keys_for word) word
 
 unfoldable pub nearest_command : List ℕ → List ℕ
-nearest_command word = nearest word command_texts
+nearest_command word = (nearest word none command_texts).name

@@ -2,7 +2,7 @@
 use Rattle.std.specs.Prelude.{ℕ, Bool, ◌||◌, ◌==◌, cond, List, [], ◌++◌, map, codes}
 use Rattle.std.specs.List.{concat, before_first}
 use Rattle.std.specs.Str.{bytes_eq}
-use Rattle.grib_topics.specs.declared.table.TheConstants.{COMMANDS, KEYS, REFUSALS, CAUSES, LOSSES, DEMOTIONS}
+use Rattle.grib_topics.specs.declared.table.TheConstants.{COMMANDS, KEYS, FIRST_KEYS, REFUSALS, CAUSES, LOSSES, DEMOTIONS}
 
 abbrev pub is_blank : ℕ → Bool
 is_blank octet = octet == 32
@@ -32,6 +32,10 @@ command_texts = map (λ text. text.now) COMMANDS
 abbrev pub key_texts : List (List ℕ)
 key_texts = map (λ text. text.now) KEYS
 
+-- those on keys of edition 1
+abbrev pub first_key_texts : List (List ℕ)
+first_key_texts = map (λ text. text.now) FIRST_KEYS
+
 abbrev pub refusal_texts : List (List ℕ)
 refusal_texts = map (λ text. text.now) REFUSALS
 
@@ -48,5 +52,5 @@ demotion_texts = map (λ text. text.now) DEMOTIONS
 unfoldable pub told_of : List ℕ → List ℕ
 told_of name =
     texts_of (codes "commands") name command_texts ++ texts_of (codes "keys") name key_texts
-    ++ texts_of (codes "refusals") name refusal_texts ++ texts_of (codes "causes") name cause_texts
+    ++ texts_of (codes "keys") name first_key_texts ++ texts_of (codes "refusals") name refusal_texts ++ texts_of (codes "causes") name cause_texts
     ++ texts_of (codes "causes") name loss_texts ++ texts_of (codes "causes") name demotion_texts

@@ -4,7 +4,7 @@ ghost use Rattle.std.specs.Prelude.{◌≡◌, IfOk, map};
 ghost use Rattle.grib_topics.specs.Nearest as near;
 
 use crate::elsewhere::keys_for;
-use crate::table::{COMMANDS, KEYS};
+use crate::table::{COMMANDS, FIRST_KEYS, KEYS};
 use std::alloc::{AllocError, Global};
 use strsim::levenshtein;
 
@@ -14,6 +14,12 @@ struct Near<'a> {
     name: &'a str,
     changes: usize,
 }
+
+/// No name yet: one counts where no more than three letters change.
+const NONE: Near<'static> = Near {
+    name: "",
+    changes: 4,
+};
 
 /// The keys that are nearest to a word: those that say what ecCodes has by this name, or else the one whose name is
 /// nearest. It is empty where there are none. The only error is that there is no memory.
@@ -29,12 +35,14 @@ pub fn nearest_key(alloc: Global, word: &str) -> Result<&'static str, AllocError
     }
 }
 
-/// The name of the key that is nearest to a word.
+/// The name of the key that is nearest to a word: of edition 2, or of edition 1 where that is nearer.
 #[tactic(auto, unfolding(crate::specs::Nearest::nearest_name))]
 fn nearest_name(alloc: Global, word: &str) -> Result<&'static str, AllocError>
     ensures { IfOk result (λ name. name.now ≡ near.nearest_name word.now) }
 {
-    nearest(alloc, word, &KEYS[1..])
+    let second = nearest(alloc, word, NONE, &KEYS[1..])?;
+    let best = nearest(alloc, word, second, &FIRST_KEYS[1..])?;
+    Ok(best.name)
 }
 
 /// The name of the command that is nearest to a word. It is empty where none is near. The only error is that there is
@@ -43,23 +51,25 @@ fn nearest_name(alloc: Global, word: &str) -> Result<&'static str, AllocError>
 pub fn nearest_command(alloc: Global, word: &str) -> Result<&'static str, AllocError>
     ensures { IfOk result (λ name. name.now ≡ near.nearest_command word.now) }
 {
-    nearest(alloc, word, &COMMANDS)
+    let best = nearest(alloc, word, NONE, &COMMANDS)?;
+    Ok(best.name)
 }
 
-/// The first word of one of the texts that is nearest to a word, by the fewest letters that are to be changed, put in
-/// or left out, whatever their case: no more than three, and fewer than the name has. It is empty where no name is so
-/// near. Of several names as near it is the first.
-fn nearest<'a>(alloc: Global, word: &str, texts: &[&'a str]) -> Result<&'a str, AllocError>
-    ensures { IfOk result (λ name. name.now ≡ near.nearest word.now (map (λ t. t.now) texts.now)) }
+/// The nearest to a word of a name and the first words of these texts, by the fewest letters that are to be changed, put
+/// in or left out, whatever their case: fewer than the name has. Of several names as near it is the first.
+fn nearest<'a>(
+    alloc: Global,
+    word: &str,
+    start: Near<'a>,
+    texts: &[&'a str],
+) -> Result<Near<'a>, AllocError>
+    ensures { IfOk result (λ found. near.seen found.name.now found.changes ≡ near.nearest word.now (near.seen start.entry.name.now start.entry.changes) (map (λ t. t.now) texts.now)) }
 {
-    let mut best = Near {
-        name: "",
-        changes: 4,
-    };
+    let mut best = start;
     for text in texts {
         best = nearer(alloc, word, best, first_word(text))?;
     }
-    Ok(best.name)
+    Ok(best)
 }
 
 /// The one of two names that is nearer to a word; the first one where they are as near.

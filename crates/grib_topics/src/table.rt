@@ -3,14 +3,14 @@
 /// What each command does, behind its words.
 pub(crate) const COMMANDS: [&str; 17] = [
     "check [refused=pass] [profile=open]: A line for each message, with its place, edition, octets and fields, and a line on the input.\n",
-    "list [refused=pass] [profile=open]: A line for each field.\n",
-    "keys [refused=pass] [profile=open]: For each field every key that it has, with its value, as filter takes it; of a message of edition 1 the numbers of Section 1.\n",
+    "list [with=COLUMNS] [names=FILE] [refused=pass] [profile=open]: A line for each field. With with= the line goes on with COLUMN=VALUE for each of these columns.\nCOLUMNS is a list with commas of keys of either edition, at (octets of the input before the message) and octets (of the message). The value is - where the field has no such key.\nWith names= the line ends with name=NAME where the table has a record discipline,category,number,name for the parameter of the field.\nExample: grib list with=year,month,day,hour,octets < FILE\n",
+    "keys [show=COLUMNS] [names=FILE] [refused=pass] [profile=open]: For each field every key that it has, with its value, as filter takes it; of a message of edition 1 the numbers of Section 1. With show= a line for each field with its number and the values of these columns, for COLUMNS and names= see: grib help list.\n",
     "dump [decimals=0..18] [refused=pass] [kept=pass] [profile=open]: For each field its list line, a line with R, E and D, and a line for each grid point with its scaled integer X: the value is (R + X * 2^E) / 10^D. With decimals= the value itself, rounded half to even to so many places.\n",
     "values [as=f8|f4] [refused=pass] [kept=pass] [profile=open]: For each field an array in the form .npy of NumPy: the value of each grid point as the nearest number of 8 octets (f8, also without as=) or of 4 (f4), and a missing value as NaN.\n",
     "stats [refused=pass] [profile=open]: For each field the number of points with and without a value, the smallest and the largest scaled integer with the first grid point of each, and the line with R, E and D.\n",
-    "filter KEY=VALUES .. KEY!=VALUES .. [refused=copy|pass] [kept=copy|pass] [profile=open]: The fields that have these values, copied octet for octet.\nVALUES is a value, a list as 1,2 or a range as 0..24. A value is a whole number, as 98, 0 or -5, or missing.\nAll keys: grib help keys. The values that the fields of a file have: grib keys < FILE\nExample: grib filter surface1=100 surface1Scale=0 surface1Value=50000 < FILE > level500\n",
-    "set KEY=VALUE .. [refused=copy|pass] [kept=copy|pass] [profile=open]: Each message with new values of these keys, all other octets copied.\n",
-    "split out=NAME [refused=copy|pass] [kept=copy|pass] [profile=open]: The n-th field of the input becomes the file NAME.n; nothing goes to standard output.\n",
+    "filter KEY=VALUES .. KEY!=VALUES .. [name=NAMES names=FILE] [refused=copy|pass] [kept=copy|pass] [profile=open]: The fields that have these values, copied octet for octet.\nVALUES is a value, a list as 1,2 or a range as 0..24. A value is a whole number, as 98, 0 or -5, or missing.\nWith keys of edition 1 by themselves, as Centre=98: the messages of edition 1 that have these values.\nWith name= and names=: the fields whose parameter has one of these names, as TMP,HGT, by the table of records discipline,category,number,name.\nAll keys: grib help keys. The values that the fields of a file have: grib keys < FILE\nExample: grib filter surface1=100 surface1Scale=0 surface1Value=50000 < FILE > level500\n",
+    "set KEY=VALUE .. [dates=valid] [refused=copy|pass] [kept=copy|pass] [profile=open]: Each message with new values of these keys, all other octets copied. The keys are of one edition, and so are the messages that it changes. With dates=valid no message gets a reference time that is no date and time, as 30 February.\n",
+    "split out=NAME [editions=both] [refused=copy|pass] [kept=copy|pass] [profile=open]: The n-th field of the input becomes the file NAME.n; nothing goes to standard output. With editions=both messages of edition 1 become files too, as they are.\n",
     "repack to=0|2|3|42|least [order=1|2] [refused=copy|pass] [kept=copy|pass] [profile=open]: Each message in simple packing (to=0), complex packing (to=2), complex packing with spatial differencing (to=3 with order=1 or order=2) or CCSDS packing (to=42 with profile=open), or each field in the smallest of these, or as it is (to=least). Every value and every missing value is preserved.\n",
     "rescan [refused=copy|pass] [kept=copy|pass] [profile=open]: Each message with its points from west to east and from north to south, on regular latitude/longitude grids.\n",
     "crop i0=N i1=N j0=N j1=N [refused=copy|pass] [kept=copy|pass] [profile=open]: The grid columns i0 to i1 and the rows j0 to j1 of each message on such a grid in that order, counted from 0.\n",
@@ -76,6 +76,33 @@ pub(crate) const KEYS: [&str; 51] = [
     "bits                Section 5, octet 20: bits per value or group reference; fixed\n",
 ];
 
+/// Where each key of edition 1 stands in Section 1, and what it says; code tables in parentheses.
+pub(crate) const FIRST_KEYS: [&str; 23] = [
+    "keys of edition 1 are numbers in Section 1 of such a message, by name. filter takes all of them, set those that are not fixed; neither takes them beside keys of edition 2:\n",
+    "Version             edition 1, octet 4: version of the parameter table (code table 2)\n",
+    "Centre              edition 1, octet 5: originating centre\n",
+    "Process             edition 1, octet 6: generating process\n",
+    "GridNumber          edition 1, octet 7: number of the grid in the centre's catalogue\n",
+    "Flags               edition 1, octet 8: whether there are a Section 2 and a Section 3; fixed\n",
+    "Parameter           edition 1, octet 9: parameter (2)\n",
+    "LevelType           edition 1, octet 10: type of level (3)\n",
+    "Level               edition 1, octets 11-12: level; of a layer 256 times its top and its bottom\n",
+    "YearOfCentury       edition 1, octet 13: year of the century of the reference time, 1 to 100\n",
+    "Month               edition 1, octet 14: month of the reference time\n",
+    "Day                 edition 1, octet 15: day of the reference time\n",
+    "Hour                edition 1, octet 16: hour of the reference time\n",
+    "Minute              edition 1, octet 17: minute of the reference time\n",
+    "Unit                edition 1, octet 18: unit of time of P1 and P2 (4)\n",
+    "P1                  edition 1, octet 19: first period of time\n",
+    "P2                  edition 1, octet 20: second period of time\n",
+    "TimeRange           edition 1, octet 21: what P1 and P2 mean (5)\n",
+    "AverageCount        edition 1, octets 22-23: fields in an average\n",
+    "AverageMissing      edition 1, octet 24: fields missing from an average\n",
+    "Century             edition 1, octet 25: century of the reference time; the year 2000 is of century 20\n",
+    "SubCentre           edition 1, octet 26: originating sub-centre\n",
+    "DecimalScale        edition 1, octets 27-28: decimal scale factor; has a sign; fixed\n",
+];
+
 /// Why a message is refused.
 pub(crate) const REFUSALS: [&str; 39] = [
     "refusals are the reasons in a line refused message <m> octet <o> <Reason> <detail>:\n",
@@ -120,12 +147,14 @@ pub(crate) const REFUSALS: [&str; 39] = [
 ];
 
 /// Why a message that is accepted is not changed or printed as asked.
-pub(crate) const CAUSES: [&str; 16] = [
+pub(crate) const CAUSES: [&str; 18] = [
     "causes are what stands in a line kept message <m> <cause>:\n",
-    "EditionOne          kept by filter, split, set, repack, rescan and crop: the message is of edition 1; migrate it first\n",
+    "EditionOne          kept by filter and set with keys of edition 2, split without editions=both, repack, rescan and crop: the message is of edition 1; migrate it first\n",
+    "EditionTwo          kept by set with keys of edition 1: the message is of edition 2; set keys of edition 2\n",
     "Packing             kept with profile=open by dump, values, stats, repack, rescan, crop and demote: the values of the field cannot be read, since its packing, 5.<template>, is not supported; kept=copy copies the message\n",
     "KeyRange            kept by set: the value does not fit the key, as month=256, or is missing for a key that is never missing\n",
     "KeyAbsent           kept by set: the template of the field has no such key\n",
+    "Date                kept by set dates=valid: the message would have a reference time that is no date and time; other values, or set without dates=valid\n",
     "OutOfRange          kept by repack, rescan and crop: the scaled integer of the point is negative or has too many bits for the packing; another to=, or to=least\n",
     "SecondaryMissing    kept by repack: simple packing has no secondary missing values; to=2 or to=3\n",
     "DifferenceRange     kept by repack, rescan and crop: the differences do not fit 32 bits; to=2 or to=0\n",

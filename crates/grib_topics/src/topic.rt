@@ -4,7 +4,7 @@ ghost use Rattle.std.specs.Prelude.{◌≡◌, ◌++◌, string_bytes, IfOk, map
 ghost use Rattle.grib_topics.specs.Topics.{texts_of, text_if_on};
 ghost use Rattle.grib_topics.specs.Topics as topics;
 
-use crate::table::{CAUSES, COMMANDS, DEMOTIONS, KEYS, LOSSES, REFUSALS};
+use crate::table::{CAUSES, COMMANDS, DEMOTIONS, FIRST_KEYS, KEYS, LOSSES, REFUSALS};
 use std::alloc::{AllocError, Global};
 
 /// What is told of a name, which is that of a page or of a topic: all texts of the page, or those on the topics that
@@ -15,6 +15,7 @@ pub fn told_of(alloc: Global, name: &str) -> Result<String, AllocError>
     let mut text = String::new(alloc);
     push_texts(&mut text, "commands", name, &COMMANDS)?;
     push_texts(&mut text, "keys", name, &KEYS)?;
+    push_texts(&mut text, "keys", name, &FIRST_KEYS)?;
     push_texts(&mut text, "refusals", name, &REFUSALS)?;
     push_texts(&mut text, "causes", name, &CAUSES)?;
     push_texts(&mut text, "causes", name, &LOSSES)?;

@@ -6,7 +6,7 @@ ghost use Rattle.grib_command.specs.Jobs.{IsJob};
 
 use grib_base::List;
 use grib_engine::{
-    Cause, Change, Choice, Choices, Job, Kept, Key, Outcome, Test, Value, Wanted, serve,
+    Dates, Cause, Change, Choice, Choices, Job, Kept, Key, Outcome, Test, Value, Wanted, serve,
 };
 use grib_io::{CalmSink, CalmSource, MemoryShelf};
 use grib_samples::{PLAIN, TWO_FIELDS, edited};
@@ -66,7 +66,10 @@ fn set(alloc: Global, key: Key, number: i64, octets: &[u8]) -> Result<Ran, Alloc
         key,
         value: Value::Number(number),
     };
-    let job = Job::Set(List::of([change].to_vec(alloc)?));
+    let job = Job::Set {
+        changes: List::of([change].to_vec(alloc)?),
+        dates: Dates::Any,
+    };
     run(alloc, &job, octets)
 }
 

@@ -49,7 +49,10 @@ fn split(
     shelf: &mut MemoryShelf,
     note: &[u8],
 ) -> Result<Outcome, Fail> {
-    let job = Job::Split(Name::of(String::from_str(alloc, "p")?));
+    let job = Job::Split {
+        name: Name::of(String::from_str(alloc, "p")?),
+        edition_1: false,
+    };
     let mut input = CalmSource::new(octets, 100);
     let mut output = CalmSink::new(alloc, 100);
     let mut notes = CalmSink::new(alloc, 100);

@@ -1,9 +1,10 @@
 use Rattle.std.proofs.Common.{◌≡◌, ◌-◌, false, Ok, Err, length, map, string_bytes, take, drop, refl, sym, ◌∙◌, subst}
 use Rattle.grib_run_spec.specs.Serving.{IfUnread}
 use Rattle.grib_run_spec.specs.Tasks.{has_shelf}
-use Rattle.grib_cli.specs.declared.words.JobFault.TheVariants.{Usage}
-use Rattle.grib_cli.specs.Words.{IsAsked, job_of, policy_of, profile_of, work_by, work_of}
-use Rattle.grib_cli.proofs.Asked.{behind}
+use Rattle.grib_words.specs.declared.job.JobFault.TheVariants.{Usage}
+use Rattle.grib_words.specs.Words.{IsAsked, job_of, policy_of, profile_of}
+use Rattle.grib_cli.specs.Asked.{work_by, work_of}
+use Rattle.grib_words.proofs.Asked.{behind}
 use Rattle.grib_cli.proofs.Promised.{promised, promised_told, plainly, asks, asks_none, words_stand, soon_never, unread_any}
 use Rattle.grib_cli.proofs.running.run.Goals as goal
 

@@ -2,7 +2,7 @@ use Rattle.std.proofs.Common.{[], map, string_bytes, subst, ◌||◌, ◌∙◌}
 use Rattle.grib_run_spec.specs.Seen.{seen}
 use Rattle.grib_run_spec.specs.Serving.{Serves}
 use Rattle.grib_run_spec.specs.Tasks.{Makes, writing}
-use Rattle.grib_cli.specs.Helping.{told_of_words}
+use Rattle.grib_help.specs.Helping.{told_of_words}
 use Rattle.grib_cli.proofs.running.tell_of.Goals as goal
 
 pub returns-in-Ok : goal.returns-in-Ok

@@ -2,8 +2,8 @@ use Rattle.std.proofs.Common.{◌≡◌, ◌||◌, None, refl, ap}
 use Rattle.grib_command.specs.Command.{Command, under}
 use Rattle.grib_command.specs.Outcomes.{note_of}
 use Rattle.grib_run_spec.specs.Seen.{seen}
-use Rattle.grib_run_spec.specs.Tasks.{ReadsTables, demoting}
-use Rattle.grib_table.specs.declared.both.Tables.{Tables}
+use Rattle.grib_run_spec.specs.Tasks.{ReadsTables, by_parameters, demoting}
+use Rattle.grib_table.specs.declared.together.Tables.{Tables}
 use Rattle.grib_engine.proofs.Broken.{own_note}
 use Rattle.grib_engine.proofs.Ended.{served}
 use Rattle.grib_engine.proofs.Unread.{untabled, by_tables, left_alone, left_open}
@@ -13,14 +13,14 @@ pub returns-in-Ok-clause-serves : goal.returns-in-Ok-clause-serves
 returns-in-Ok-clause-serves g c =
     let see = seen g.S.Source.left g.S.Source.faults g.T.Sink.contents g.T.Sink.faults g.T.Sink.settled g.N.Sink.contents g.N.Sink.faults g.N.Sink.settled g.H.Shelf.contents g.H.Shelf.faults in
     let now = see c.serve_messages.new.input c.serve_messages.new.output c.serve_messages.new.notes c.serve_messages.new.shelf in
-    by_tables (g.T.Sink.takes_memory || g.N.Sink.takes_memory) c.args.params.now None (λ tables. under c.args.profile (demoting c.args.matching c.args.keep_local c.args.any_earth tables)) c.args.policy c.serve_messages.result
+    by_tables (g.T.Sink.takes_memory || g.N.Sink.takes_memory) (by_parameters c.args.params.now None) (λ tables. under c.args.profile (demoting c.args.matching c.args.keep_local c.args.any_earth tables)) c.args.policy c.serve_messages.result
     (see c.args.input.now c.args.output.now c.args.notes.now c.args.shelf.now) now (g.H.Shelf.contents c.tables_named.new.shelf) c.in-Ok.ensures.kept
     c.in-Ok.tables (g.H.Shelf.faults c.tables_named.new.shelf) c.in-Ok.ensures.read c.in-Ok.ensures.counted
     (ap g.H.Shelf.contents (c.serve_messages.ensures.unused refl)) c.serve_messages.ensures.serves
 
 pub returns-in-Ok-clause-unread : goal.returns-in-Ok-clause-unread
 returns-in-Ok-clause-unread g c =
-    left_open c.args.params.now None (λ tables. under c.args.profile (demoting c.args.matching c.args.keep_local c.args.any_earth tables)) (g.H.Shelf.contents c.args.shelf.now) (c.serve_messages.new.input ≡ c.args.input.now) c.in-Ok.tables c.in-Ok.ensures.read
+    left_open (by_parameters c.args.params.now None) (λ tables. under c.args.profile (demoting c.args.matching c.args.keep_local c.args.any_earth tables)) (g.H.Shelf.contents c.args.shelf.now) (c.serve_messages.new.input ≡ c.args.input.now) c.in-Ok.tables c.in-Ok.ensures.read
 
 pub returns-in-Err-clause-serves : goal.returns-in-Err-clause-serves
 returns-in-Err-clause-serves g c =
@@ -30,10 +30,10 @@ returns-in-Err-clause-serves g c =
     let own = c.untabled.result in
     let commands : Tables → Command = λ tables. under c.args.profile (demoting c.args.matching c.args.keep_local c.args.any_earth tables) in
     let closed = c.close_with_note.ensures in
-    served g.T.Sink.takes_memory g.N.Sink.takes_memory before mid (ReadsTables c.args.params.now None commands) c.args.policy (note_of own) (own_note own)
+    served g.T.Sink.takes_memory g.N.Sink.takes_memory before mid (ReadsTables (by_parameters c.args.params.now None) commands) c.args.policy (note_of own) (own_note own)
     closed.ends closed.output_kept closed.after_fault closed.whole
-    (untabled c.args.policy before mid.names mid.shelf_faults c.in-Err.ensures.kept c.args.params.now None commands c.in-Err.stop own c.untabled.ensures c.in-Err.ensures.read c.in-Err.ensures.counted)
+    (untabled c.args.policy before mid.names mid.shelf_faults c.in-Err.ensures.kept (by_parameters c.args.params.now None) commands c.in-Err.stop own c.untabled.ensures c.in-Err.ensures.read c.in-Err.ensures.counted)
 
 pub returns-in-Err-clause-unread : goal.returns-in-Err-clause-unread
 returns-in-Err-clause-unread g c =
-    left_alone c.args.params.now None (λ tables. under c.args.profile (demoting c.args.matching c.args.keep_local c.args.any_earth tables)) (g.H.Shelf.contents c.args.shelf.now) (c.args.input.now ≡ c.args.input.now) refl
+    left_alone (by_parameters c.args.params.now None) (λ tables. under c.args.profile (demoting c.args.matching c.args.keep_local c.args.any_earth tables)) (g.H.Shelf.contents c.args.shelf.now) (c.args.input.now ≡ c.args.input.now) refl

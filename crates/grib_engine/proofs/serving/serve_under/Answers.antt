@@ -1,12 +1,13 @@
-use Rattle.std.proofs.Common.{rules, ◌≡◌, ◌||◌, [], sym, subst}
+use Rattle.std.proofs.Common.{rules, ◌≡◌, ◌||◌, false, [], sym, subst}
 use Rattle.grib_command.specs.declared.ending.Ending.TheVariants.{Silent, Total}
 use Rattle.grib_command.specs.Pages.{text_of}
 use Rattle.grib_report.specs.Checking.{line_of, line_2}
 use Rattle.grib_dispatch.specs.Hearing.{RefusesInTime}
 use Rattle.grib_dispatch.proofs.HeardMessages.{in_time}
 use Rattle.grib_run_spec.specs.Seen.{seen}
-use Rattle.grib_run_spec.specs.Serving.{Serves}
-use Rattle.grib_run_spec.specs.Tasks.{Makes, IfHears, work_under, writing}
+use Rattle.grib_run_spec.specs.Serving.{Serves, IfUnread}
+use Rattle.grib_run_spec.specs.Tasks.{Makes, IfHears, has_shelf, work_under, writing}
+use Rattle.grib_engine.proofs.Unread.{lines_unheard}
 use Rattle.grib_engine.proofs.serving.serve_under.Goals as goal
 
 pub returns-in-Check-clause-soon : goal.returns-in-Check-clause-soon
@@ -48,3 +49,30 @@ returns-in-Demote-clause-serves g c =
     let before = see c.args.input.now c.args.output.now c.args.notes.now c.args.shelf.now in
     let now = see c.serve_demoted.new.input c.serve_demoted.new.output c.serve_demoted.new.notes c.serve_demoted.new.shelf in
     subst (λ job. Serves (g.T.Sink.takes_memory || g.N.Sink.takes_memory) (work_under c.args.profile job) c.args.policy c.serve_demoted.result before now) (sym c.in-Demote.is) c.serve_demoted.ensures.serves
+
+pub returns-in-Lines-clause-serves : goal.returns-in-Lines-clause-serves
+returns-in-Lines-clause-serves g c =
+    let see = seen g.S.Source.left g.S.Source.faults g.T.Sink.contents g.T.Sink.faults g.T.Sink.settled g.N.Sink.contents g.N.Sink.faults g.N.Sink.settled g.H.Shelf.contents g.H.Shelf.faults in
+    let before = see c.args.input.now c.args.output.now c.args.notes.now c.args.shelf.now in
+    let now = see c.serve_lines.new.input c.serve_lines.new.output c.serve_lines.new.notes c.serve_lines.new.shelf in
+    subst (λ job. Serves (g.T.Sink.takes_memory || g.N.Sink.takes_memory) (work_under c.args.profile job) c.args.policy c.serve_lines.result before now) (sym c.in-Lines.is) c.serve_lines.ensures.serves
+
+pub returns-in-Lines-clause-soon : goal.returns-in-Lines-clause-soon
+returns-in-Lines-clause-soon g c = λ nothing.
+    let soon = RefusesInTime c.args.profile c.serve_lines.result (g.S.Source.left c.args.input.now) (g.S.Source.left c.serve_lines.new.input) in
+    subst (λ job. IfHears job soon) (sym c.in-Lines.is) (lines_unheard c.in-Lines.form c.in-Lines.columns c.in-Lines.names soon)
+
+pub returns-in-Lines-clause-unread : goal.returns-in-Lines-clause-unread
+returns-in-Lines-clause-unread g c =
+    subst (λ job. IfUnread (work_under c.args.profile job) (g.H.Shelf.contents c.args.shelf.now) (c.serve_lines.new.input ≡ c.args.input.now)) (sym c.in-Lines.is) c.serve_lines.ensures.unread
+
+pub returns-in-Lines-clause-unused : goal.returns-in-Lines-clause-unused
+returns-in-Lines-clause-unused g c =
+    subst (λ job. has_shelf (work_under c.args.profile job) ≡ false → c.serve_lines.new.shelf ≡ c.args.shelf.now) (sym c.in-Lines.is) c.serve_lines.ensures.unused
+
+pub returns-in-FilterNamed-clause-serves : goal.returns-in-FilterNamed-clause-serves
+returns-in-FilterNamed-clause-serves g c =
+    let see = seen g.S.Source.left g.S.Source.faults g.T.Sink.contents g.T.Sink.faults g.T.Sink.settled g.N.Sink.contents g.N.Sink.faults g.N.Sink.settled g.H.Shelf.contents g.H.Shelf.faults in
+    let before = see c.args.input.now c.args.output.now c.args.notes.now c.args.shelf.now in
+    let now = see c.serve_filtered_named.new.input c.serve_filtered_named.new.output c.serve_filtered_named.new.notes c.serve_filtered_named.new.shelf in
+    subst (λ job. Serves (g.T.Sink.takes_memory || g.N.Sink.takes_memory) (work_under c.args.profile job) c.args.policy c.serve_filtered_named.result before now) (sym c.in-FilterNamed.is) c.serve_filtered_named.ensures.serves

@@ -11,5 +11,5 @@ invariant-loop-record g l = record {
   ready : Ready l.record-iterator.rdr;
   flexible : l.record-iterator.rdr.flexible ≡ true;
   left : 0 < l.record-iterator.left;
-  stands : Standing g.R.Row.verdict_from (g.R.Row.verdict l.fn.text) (λ s. Some s.now) l.record-iterator.rdr l.number l.rows.entries;
+  stands : Standing g.R.FromRecords.verdict_from (g.R.FromRecords.verdict l.fn.text) (λ s. Some s.now) l.record-iterator.rdr l.number l.table;
 }

@@ -12,4 +12,4 @@ loop-text-preserved c =
     c.in_ok-best.ensures
     ∙ (ap (nearer word (seen c.loop-text.best.name.now c.loop-text.best.changes)) c.first_word.ensures
     ∙ (ap (λ best. nearer word best (first_word (get_or texts i none).now)) c.loop-text.invariant
-    ∙ sym (folded_on (nearer word) (seen [] 4) first_word (λ t. t.now) texts i none c.loop-text-test.true)))
+    ∙ sym (folded_on (nearer word) (seen c.args.start.name.now c.args.start.changes) first_word (λ t. t.now) texts i none c.loop-text-test.true)))

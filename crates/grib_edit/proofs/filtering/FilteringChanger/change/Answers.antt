@@ -4,5 +4,5 @@ use Rattle.grib_edit.proofs.filtering.FilteringChanger.change.Goals as goal
 
 pub returns : goal.returns
 returns g c = λ place.
-    by_writing g.T.Sink.contents g.T.Sink.faults g.T.Sink.settled c.write_filtered.result c.written.result _ _ _ _ _ c.written.ensures refl
-    c.write_filtered.ensures.count c.write_filtered.ensures.writes
+    by_writing g.T.Sink.contents g.T.Sink.faults g.T.Sink.settled c.write_chosen.result c.written.result _ _ _ _ _ c.written.ensures refl
+    c.write_chosen.ensures.count c.write_chosen.ensures.writes

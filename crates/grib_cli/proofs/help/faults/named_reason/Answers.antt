@@ -1,5 +1,0 @@
-use Rattle.std.proofs.Common.{sym, ◌∙◌}
-use Rattle.grib_cli.proofs.help.faults.named_reason.Goals as goal
-
-pub returns-then-takes : goal.returns-then-takes
-returns-then-takes c = rw (sym c.takes.ensures ∙ c.if-takes.true) c.joined.ensures

@@ -1,6 +1,0 @@
-use Rattle.std.proofs.Common.{◌≡◌, map, string_bytes, take}
-use Rattle.grib_cli.specs.Helping.{spaced}
-use Rattle.grib_cli.proofs.help.spaced.Given as goal
-
-abbrev pub invariant-loop-word : goal.invariant-loop-word
-invariant-loop-word l = string_bytes l.text ≡ spaced (map string_bytes (take l.word-index l.words))

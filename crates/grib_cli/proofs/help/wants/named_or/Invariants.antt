@@ -1,7 +1,0 @@
-use Rattle.std.proofs.Common.{◌≡◌, [], map, string_bytes, take}
-use Rattle.std.specs.List.{fold}
-use Rattle.grib_cli.specs.Helping.{with_wanted}
-use Rattle.grib_cli.proofs.help.wants.named_or.Given as goal
-
-abbrev pub invariant-loop-name : goal.invariant-loop-name
-invariant-loop-name l = string_bytes l.text ≡ fold (with_wanted (map string_bytes l.words)) [] (map (λ name. name.now) (take l.name-index l.names))

@@ -1,6 +1,0 @@
-use Rattle.std.proofs.Common.{lit<}
-use Rattle.grib_cli.proofs.Parts.{unnamed}
-use Rattle.grib_cli.proofs.words.is_named.Goals as goal
-
-pub returns-in-None : goal.returns-in-None
-returns-in-None c = unnamed c.args.name.now c.args.word.now (c.in-None.ensures.byte (lit< tt) (λ w o found. found))

@@ -1,5 +1,0 @@
-use Rattle.grib_cli.proofs.Single.{asks_the_value}
-use Rattle.grib_cli.proofs.words.laws.one_value_is_asked.Goals as goal
-
-pub returns : goal.returns
-returns c = asks_the_value

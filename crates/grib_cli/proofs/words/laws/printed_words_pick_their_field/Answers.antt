@@ -1,5 +1,0 @@
-use Rattle.grib_cli.proofs.Printed.{word_is_read, word_picks}
-use Rattle.grib_cli.proofs.words.laws.printed_words_pick_their_field.Goals as goal
-
-pub returns : goal.returns
-returns c = record { read = word_is_read; picked = word_picks }

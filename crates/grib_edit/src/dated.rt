@@ -1,0 +1,37 @@
+//! Changed messages whose reference time may be asked to be a date and time.
+
+ghost use Rattle.std.specs.Prelude.{◌≡◌, ℕ, is_some};
+ghost use Rattle.grib_command.specs.Answering.{AnswersByOutput};
+ghost use Rattle.grib_command.specs.Command.{given_unless};
+ghost use Rattle.grib_edit.specs.Setting.{date_cause};
+
+use grib_command::{Answered, write_counted, written};
+use grib_dates::Dates;
+use grib_io::Sink;
+use grib_stream::Cause;
+
+/// Writes a changed message, with a reference time that is valid or not, unless it is to be valid and is not.
+pub(crate) fn write_dated<T: Sink>(
+    dates: Dates,
+    is_valid: bool,
+    octets: &[u8],
+    output: &mut T,
+) -> Answered
+    ensures { (m : ℕ) → AnswersByOutput T.contents T.faults T.settled result m
+        (given_unless (date_cause dates is_valid) m octets.now) output.old output.new }
+{
+    if is_refused(dates, is_valid) {
+        return Answered::Kept(Cause::Date);
+    }
+    written(write_counted(output, octets))
+}
+
+/// Whether a reference time is to be valid and is not.
+fn is_refused(dates: Dates, is_valid: bool) -> bool
+    ensures { result ≡ is_some (date_cause dates is_valid) }
+{
+    match dates {
+        Dates::Any => false,
+        Dates::Valid => !is_valid,
+    }
+}

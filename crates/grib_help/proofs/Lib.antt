@@ -1,0 +1,2 @@
+mod Helped
+mod Told

@@ -1,0 +1,4 @@
+pub mod Names
+pub mod Records
+pub mod Taking
+pub mod Meaning

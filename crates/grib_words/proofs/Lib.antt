@@ -1,0 +1,6 @@
+mod Numbers
+pub mod Parts
+mod Counts
+pub mod Asked
+pub mod Printed
+mod Single

@@ -1,0 +1,12 @@
+use Rattle.std.proofs.Common.{sym, ◌∙◌, rules, tests, string_bytes}
+use Rattle.std.proofs.lemmas.Iterator.{YieldsList-from_slice}
+use Rattle.std.proofs.lemmas.Iterator.Search.{any_from_yields_List}
+use Rattle.grib_words.specs.Reading.{is_on_key}
+use Rattle.grib_words.proofs.Parts.{list_any-map}
+use Rattle.grib_words.proofs.reading.has_key.Goals as goal
+
+pub returns : goal.returns
+returns c =
+    let words = c.args.words.now in
+    any_from_yields_List (λ word. is_on_key (string_bytes word)) _ _ _ c.any.ensures.ran (YieldsList-from_slice words cc) (λ x b q k. search (rules, tests))
+    ∙ sym (list_any-map is_on_key string_bytes words)

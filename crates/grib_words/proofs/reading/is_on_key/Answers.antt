@@ -1,0 +1,6 @@
+use Rattle.std.proofs.Common.{lit<}
+use Rattle.grib_words.proofs.Parts.{keyless}
+use Rattle.grib_words.proofs.reading.is_on_key.Goals as goal
+
+pub returns-in-None : goal.returns-in-None
+returns-in-None c = keyless c.args.word.now (c.in-None.ensures.byte (lit< tt) (λ w o found. found))

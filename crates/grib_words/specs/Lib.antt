@@ -1,0 +1,5 @@
+pub mod Values
+pub mod Choices
+pub mod Columns
+pub mod Reading
+pub mod Words
