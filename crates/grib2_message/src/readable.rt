@@ -73,6 +73,14 @@ impl<'a> ReadableMessage<'a> {
         Ok(ReadableMessage { message })
     }
 
+    /// This message, whose values can be read: no field is looked at again.
+    pub fn known(message: &'a Message<'a>) -> ReadableMessage<'a>
+        requires readable { IsReadable message.now }
+        ensures same { result ≡ message.now }
+    {
+        ReadableMessage { message }
+    }
+
     /// The message.
     pub fn message(&self) -> &'a Message<'a>
         ensures { result.now ≡ self.now }
