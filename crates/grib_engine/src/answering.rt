@@ -1,11 +1,11 @@
 //! A message that is answered as a job says.
 
-ghost use Rattle.std.specs.Prelude.{◌≤◌, ◌^◌, option_copied};
+ghost use Rattle.std.specs.Prelude.{◌≤◌, ◌^◌, false, option_copied};
 ghost use Rattle.grib_command.specs.Answering.{AnswersMessage};
 ghost use Rattle.grib_command.specs.Command.{given};
 ghost use Rattle.grib_command.specs.Jobs.{IsJob};
 ghost use Rattle.grib_dispatch.specs.Reading.{held_octets};
-ghost use Rattle.grib_run_spec.specs.Tasks.{IfReads, work_of};
+ghost use Rattle.grib_run_spec.specs.Tasks.{IfReads, lining, work_of};
 
 use grib_command::{Answered, ByOutput, Job};
 use grib_dispatch::{Held, answer_held};
@@ -20,6 +20,7 @@ use grib_report::{
 };
 use grib_stream::Place;
 use grib_table::Tables;
+use grib_text::{Column, LineForm};
 use grib_values::Arraying;
 use std::alloc::Global;
 
@@ -78,12 +79,8 @@ pub fn answer_message<T: Sink, H: Shelf>(
             names: Some(_),
         } => match tables {
             Some(tables) => {
-                let lining = ByOutput(Printing(Lining {
-                    form: *form,
-                    columns: columns.as_slice(),
-                    names: Some(&tables.names),
-                }));
-                answer_held(&lining, alloc, place, held, output, shelf)
+                let columns = columns.as_slice();
+                answer_lines(alloc, *form, columns, tables, place, held, output, shelf)
             }
             None => Answered::Whole(0),
         },
@@ -249,4 +246,29 @@ pub fn answer_message<T: Sink, H: Shelf>(
         },
         Job::Make { .. } | Job::Print(_) => Answered::Whole(0),
     }
+}
+
+/// Prints a line for each field of a message by the table of names.
+fn answer_lines<'a, T: Sink, H: Shelf>(
+    alloc: Global,
+    form: LineForm,
+    columns: &'a [Column],
+    tables: &'a Tables,
+    place: &Place,
+    held: &Held<'_>,
+    output: &mut T,
+    shelf: &mut H,
+) -> Answered
+    requires { place.now.fields ≤ 2 ^ 41 }
+    ensures { AnswersMessage T.contents T.faults T.settled H.contents H.faults
+        result place.now.message (given (lining form columns.now tables.now) place.now (held_octets held.now)) false
+        output.old output.new shelf.old shelf.new }
+{
+    let names = Some(&tables.names);
+    let lining = ByOutput(Printing(Lining {
+        form,
+        columns,
+        names,
+    }));
+    answer_held(&lining, alloc, place, held, output, shelf)
 }

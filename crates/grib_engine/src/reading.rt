@@ -182,15 +182,39 @@ fn serve_lines_named<S: Source, T: Sink, N: Sink, H: Shelf>(
 {
     match names_named(alloc, names, shelf) {
         Ok(tables) => {
-            let lining = ByOutput(Printing(Lining {
-                form,
-                columns,
-                names: Some(&tables.names),
-            }));
-            serve_messages(&lining, alloc, profile, policy, input, output, notes, shelf)
+            serve_lines_by(
+                alloc, form, columns, &tables, profile, policy, input, output, notes, shelf,
+            )
         }
         Err(stop) => close_with_note(alloc, untabled(stop), b"", output, notes),
     }
+}
+
+/// Prints a line for each field of the input by the table of names.
+fn serve_lines_by<'a, S: Source, T: Sink, N: Sink, H: Shelf>(
+    alloc: Global,
+    form: LineForm,
+    columns: &'a [Column],
+    tables: &'a Tables,
+    profile: Profile,
+    policy: Policy,
+    input: &mut S,
+    output: &mut T,
+    notes: &mut N,
+    shelf: &mut H,
+) -> Outcome
+    ensures serves { let see = seen S.left S.faults T.contents T.faults T.settled N.contents N.faults N.settled H.contents H.faults in
+        Serves (T.takes_memory || N.takes_memory) (Reads (under profile (lining form columns.now tables.now))) policy result
+        (see input.old output.old notes.old shelf.old) (see input.new output.new notes.new shelf.new) }
+    ensures unused { shelf.new ≡ shelf.old }
+{
+    let names = Some(&tables.names);
+    let lining = ByOutput(Printing(Lining {
+        form,
+        columns,
+        names,
+    }));
+    serve_messages(&lining, alloc, profile, policy, input, output, notes, shelf)
 }
 
 /// Reads the table of names under this name, and writes the messages and fields of the input that fulfil the conditions

@@ -12,15 +12,15 @@ use Rattle.grib_engine.proofs.reading.serve_lines_named.Goals as goal
 pub returns-in-Ok-clause-serves : goal.returns-in-Ok-clause-serves
 returns-in-Ok-clause-serves g c =
     let see = seen g.S.Source.left g.S.Source.faults g.T.Sink.contents g.T.Sink.faults g.T.Sink.settled g.N.Sink.contents g.N.Sink.faults g.N.Sink.settled g.H.Shelf.contents g.H.Shelf.faults in
-    let now = see c.serve_messages.new.input c.serve_messages.new.output c.serve_messages.new.notes c.serve_messages.new.shelf in
-    by_tables (g.T.Sink.takes_memory || g.N.Sink.takes_memory) (by_names c.args.names.now) (λ tables. under c.args.profile (lining c.args.form c.args.columns.now tables)) c.args.policy c.serve_messages.result
+    let now = see c.serve_lines_by.new.input c.serve_lines_by.new.output c.serve_lines_by.new.notes c.serve_lines_by.new.shelf in
+    by_tables (g.T.Sink.takes_memory || g.N.Sink.takes_memory) (by_names c.args.names.now) (λ tables. under c.args.profile (lining c.args.form c.args.columns.now tables)) c.args.policy c.serve_lines_by.result
     (see c.args.input.now c.args.output.now c.args.notes.now c.args.shelf.now) now (g.H.Shelf.contents c.names_named.new.shelf) c.in-Ok.ensures.kept
     c.in-Ok.tables (g.H.Shelf.faults c.names_named.new.shelf) c.in-Ok.ensures.read c.in-Ok.ensures.counted
-    (ap g.H.Shelf.contents (c.serve_messages.ensures.unused refl)) c.serve_messages.ensures.serves
+    (ap g.H.Shelf.contents c.serve_lines_by.ensures.unused) c.serve_lines_by.ensures.serves
 
 pub returns-in-Ok-clause-unread : goal.returns-in-Ok-clause-unread
 returns-in-Ok-clause-unread g c =
-    left_open (by_names c.args.names.now) (λ tables. under c.args.profile (lining c.args.form c.args.columns.now tables)) (g.H.Shelf.contents c.args.shelf.now) (c.serve_messages.new.input ≡ c.args.input.now) c.in-Ok.tables c.in-Ok.ensures.read
+    left_open (by_names c.args.names.now) (λ tables. under c.args.profile (lining c.args.form c.args.columns.now tables)) (g.H.Shelf.contents c.args.shelf.now) (c.serve_lines_by.new.input ≡ c.args.input.now) c.in-Ok.tables c.in-Ok.ensures.read
 
 pub returns-in-Err-clause-serves : goal.returns-in-Err-clause-serves
 returns-in-Err-clause-serves g c =
