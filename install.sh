@@ -63,6 +63,8 @@ files() {
 644 share/bash-completion/completions/grib share/bash-completion/completions/grib
 644 params/standard.csv share/grib/params/standard.csv
 644 params/surfaces.csv share/grib/params/surfaces.csv
+644 params/names2.csv share/grib/params/names2.csv
+644 params/names2-ncep.csv share/grib/params/names2-ncep.csv
 644 share/python/tachilwe.py share/grib/python/tachilwe.py
 755 install.sh share/grib/install.sh
 644 README.md share/doc/grib/README.md
@@ -97,6 +99,8 @@ grib.1 share/man/man1/grib-parallel.1
 grib share/bash-completion/completions/grib-parallel
 ../../../grib/params/standard.csv share/doc/grib/params/standard.csv
 ../../../grib/params/surfaces.csv share/doc/grib/params/surfaces.csv
+../../../grib/params/names2.csv share/doc/grib/params/names2.csv
+../../../grib/params/names2-ncep.csv share/doc/grib/params/names2-ncep.csv
 LINKS
 }
 # The places of files that an earlier install.sh put, which left no list.

@@ -157,7 +157,7 @@ fn head1(
 /// Writes a name after a space, nothing where there is none.
 fn write_name(line: &mut String, name: Option<&str>) -> Result<(), AllocError>
     ensures { OnOk result (string_bytes line.new
-        ≡ string_bytes line.old ++ columns.name_text (option_map (λ given. given.now) name)) }
+        ≡ string_bytes line.old ++ columns.name_text (option_map (λ given. given.now) name.entry)) }
 {
     match name {
         Some(name) => write!(line, " name={name}"),
