@@ -3,7 +3,7 @@ use Rattle.std.proofs.Common.{◌≡◌, ℕ, ◌+◌, ◌≤◌, Bool, true, fa
 use Rattle.std.specs.List.{concat}
 use Rattle.grib_base.specs.declared.profile.Profile.{Profile}
 use Rattle.grib_base.specs.Rows.{first_fault}
-use Rattle.grib2_sections.specs.Frame.{Placed, placed_at, section_number, may_follow}
+use Rattle.grib2_sections.specs.Frame.{placed_at, section_number, may_follow}
 use Rattle.grib2_sections.specs.Identification.{identification_rows}
 use Rattle.grib2_message.specs.Grammar.{AreSections}
 use Rattle.grib2_message.specs.Message.{IsMessageUnder}

@@ -1,5 +1,5 @@
 -- `set`: each message with new values of some keys.
-use Rattle.std.proofs.Common.{◌≡◌, Bool, cond, Option, Some, None, List, All, IsTrue}
+use Rattle.std.proofs.Common.{Bool, cond, Option, Some, None, List, All, IsTrue}
 use Rattle.std.specs.Option.{option_or}
 use Rattle.grib_base.specs.declared.profile.Profile.TheVariants.{Open}
 use Rattle.grib2_message.proofs.Parted.{message_most}

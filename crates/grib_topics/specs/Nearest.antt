@@ -37,7 +37,7 @@ abbrev pub none : Seen
 none = seen [] 4
 
 -- the nearest to a word of this name and the first words of these texts, the first where several are as near
-abbrev pub nearest : List ℕ → Seen → List (List ℕ) → Seen
+unfoldable pub nearest : List ℕ → Seen → List (List ℕ) → Seen
 nearest word best texts = fold (nearer word) best (map first_word texts)
 
 -- the name of a key that is nearest to a word: of edition 2, or of edition 1 where that is nearer

@@ -57,6 +57,7 @@ pub fn nearest_command(alloc: Global, word: &str) -> Result<&'static str, AllocE
 
 /// The nearest to a word of a name and the first words of these texts, by the fewest letters that are to be changed, put
 /// in or left out, whatever their case: fewer than the name has. Of several names as near it is the first.
+#[tactic(auto, unfolding(crate::specs::Nearest::nearest))]
 fn nearest<'a>(
     alloc: Global,
     word: &str,

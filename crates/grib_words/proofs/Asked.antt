@@ -1,5 +1,5 @@
 -- The values of words that are read.
-use Rattle.std.proofs.Common.{All, IsTrue, ◌≡◌, ◌⊎◌, ℕ, suc, ◌+◌, ◌-◌, ◌<◌, ◌≤◌, Bool, true, false, cond, not, ◌&&◌, ◌||◌, ◌==◌, nat_le, Option, Some, None, option_map, Result, Ok, Err, IfOk, IfSome, List, [], ◌∷◌, ◌++◌, length, map, get_or, take, drop, codes, refl, sym, ap, ◌∙◌, subst, rules, arith, tests, ⊎_elim, inl, inr, eqb-true}
+use Rattle.std.proofs.Common.{All, IsTrue, ◌≡◌, ◌⊎◌, ℕ, suc, ◌+◌, ◌-◌, ◌<◌, ◌≤◌, Bool, true, false, cond, not, ◌&&◌, ◌||◌, ◌==◌, nat_le, ℤ, Option, Some, None, option_map, Result, Ok, Err, IfOk, IfSome, List, [], ◌∷◌, ◌++◌, length, map, get_or, take, drop, codes, refl, sym, ap, ◌∙◌, subst, rules, arith, tests, ⊎_elim, inl, inr, eqb-true}
 use Rattle.std.specs.List.{list_any, list_all, find, position_or_len, cons_option}
 use Rattle.std.specs.Option.{option_map_or, option_and_then}
 use Rattle.std.specs.Str.{bytes_eq}

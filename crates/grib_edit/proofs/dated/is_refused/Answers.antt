@@ -1,7 +1,7 @@
 use Rattle.std.proofs.Common.{◌≡◌, Bool, true, false, not, refl, sym, ap, ◌∙◌}
 use Rattle.std.specs.Prelude.{is_some}
 use Rattle.grib_dates.specs.declared.rule.Dates.{Dates}
-use Rattle.grib_dates.specs.declared.rule.Dates.TheVariants.{Any, Valid}
+use Rattle.grib_dates.specs.declared.rule.Dates.TheVariants.{Valid}
 use Rattle.grib_edit.specs.Setting.{date_cause}
 use Rattle.grib_edit.proofs.dated.is_refused.Goals as goal
 

@@ -1,5 +1,5 @@
-use Rattle.std.proofs.Common.{ap₂, ◌∙◌, ◌+◌, subst}
-use Rattle.grib_edit.specs.Parts.{Part, part, part_name, puts}
+use Rattle.std.proofs.Common.{ap₂, ◌∙◌, subst}
+use Rattle.grib_edit.specs.Parts.{Part, part, puts}
 use Rattle.grib_edit.specs.Shelving.{Shelves}
 use Rattle.grib_edit.proofs.Shelved.{field_unbegun}
 use Rattle.grib_edit.proofs.splitting.put_message1.Goals as goal
