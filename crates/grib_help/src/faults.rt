@@ -293,6 +293,13 @@ fn rule_of(command: Command, name: &str) -> &'static str
     if matches!(name, "refused" | "kept") {
         return policy_rule(command);
     }
+    command_rule(command, name)
+}
+
+/// What the value of one of a command's own names is.
+fn command_rule(command: Command, name: &str) -> &'static str
+    ensures { result.now ≡ helping.command_rule command name.now }
+{
     match command {
         Command::Filter => filter_rule(name),
         Command::Set => set_rule(name),

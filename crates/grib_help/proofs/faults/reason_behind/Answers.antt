@@ -17,4 +17,4 @@ returns-in-Some c =
     let here : get_or (map string_bytes words) c.args.place [] ≡ c.as_str-word.result.now =
     get_or-map string_bytes words c.args.place c.index-words-place.result [] c.requires ∙ sym (c.as_str-word.ensures.value ∙ ap string_bytes c.index-words-place.is) in
     let parts = c.in-Some.ensures.byte (lit< tt) (λ w o found. found) in
-    rw (here, stands_equals c.as_str-word.result.now parts.2, sym parts.0, sym parts.1, take-map string_bytes words c.args.place) c.named_reason.ensures
+    rw (here, stands_equals c.as_str-word.result.now parts.2, sym parts.0, sym parts.1, take-map string_bytes c.args.place words) c.named_reason.ensures
