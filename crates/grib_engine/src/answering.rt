@@ -1,13 +1,14 @@
 //! A message that is answered as a job says.
 
 ghost use Rattle.std.specs.Prelude.{◌≤◌, ◌^◌, false, option_copied};
+ghost use Rattle.grib_base.specs.declared.profile.Profile.TheVariants.{Stated};
 ghost use Rattle.grib_command.specs.Answering.{AnswersMessage};
 ghost use Rattle.grib_command.specs.Command.{given};
 ghost use Rattle.grib_command.specs.Jobs.{IsJob};
 ghost use Rattle.grib_dispatch.specs.Reading.{held_octets};
-ghost use Rattle.grib_run_spec.specs.Tasks.{IfReads, lining, work_of};
+ghost use Rattle.grib_run_spec.specs.Tasks.{IfReads, by_profile, lines_work, lining, work_of};
 
-use grib_command::{Answered, ByOutput, Job};
+use grib_command::{Answered, ByOutput, Job, Name};
 use grib_dispatch::{Held, answer_held};
 use grib_edit::{
     Changing, Demoting, Filtering, Filtering1, FilteringNamed, Migrating, OfValues, Repacking,
@@ -64,26 +65,13 @@ pub fn answer_message<T: Sink, H: Shelf>(
         Job::Lines {
             form,
             columns,
-            names: None,
+            names,
         } => {
-            let lining = ByOutput(Printing(Lining {
-                form: *form,
-                columns: columns.as_slice(),
-                names: None,
-            }));
-            answer_held(&lining, alloc, place, held, output, shelf)
+            let columns = columns.as_slice();
+            answer_lines(
+                alloc, *form, columns, names, tables, place, held, output, shelf,
+            )
         }
-        Job::Lines {
-            form,
-            columns,
-            names: Some(_),
-        } => match tables {
-            Some(tables) => {
-                let columns = columns.as_slice();
-                answer_lines(alloc, *form, columns, tables, place, held, output, shelf)
-            }
-            None => Answered::Whole(0),
-        },
         Job::Stats => answer_held(
             &ByOutput(PrintingValues(Summing)),
             alloc,
@@ -248,8 +236,45 @@ pub fn answer_message<T: Sink, H: Shelf>(
     }
 }
 
-/// Prints a line for each field of a message by the table of names.
+/// Prints a line for each field of a message, with names where a table of names is asked for. Nothing is said of it where
+/// none is given then.
 fn answer_lines<'a, T: Sink, H: Shelf>(
+    alloc: Global,
+    form: LineForm,
+    columns: &'a [Column],
+    names: &Option<Name>,
+    tables: Option<&'a Tables>,
+    place: &Place,
+    held: &Held<'_>,
+    output: &mut T,
+    shelf: &mut H,
+) -> Answered
+    requires { place.now.fields ≤ 2 ^ 41 }
+    ensures { IfReads (by_profile Stated (lines_work form columns.now names.now)) (option_copied tables.entry) (λ command.
+        AnswersMessage T.contents T.faults T.settled H.contents H.faults
+        result place.now.message (given command place.now (held_octets held.now)) command.uses_shelf
+        output.old output.new shelf.old shelf.new) }
+{
+    match names {
+        None => {
+            let lining = ByOutput(Printing(Lining {
+                form,
+                columns,
+                names: None,
+            }));
+            answer_held(&lining, alloc, place, held, output, shelf)
+        }
+        Some(_) => match tables {
+            Some(tables) => {
+                answer_named_lines(alloc, form, columns, tables, place, held, output, shelf)
+            }
+            None => Answered::Whole(0),
+        },
+    }
+}
+
+/// Prints a line for each field of a message by the table of names.
+fn answer_named_lines<'a, T: Sink, H: Shelf>(
     alloc: Global,
     form: LineForm,
     columns: &'a [Column],
