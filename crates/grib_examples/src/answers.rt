@@ -7,6 +7,7 @@ ghost use Rattle.grib_base.specs.Rows.{refusal};
 ghost use Rattle.grib_reasons.specs.declared.cause.Cause.TheVariants.{EditionOne, DecimalRange};
 ghost use Rattle.grib_repack.specs.declared.target.RepackTarget.TheVariants.{Simple};
 ghost use Rattle.grib_command.specs.declared.job.Job.TheVariants.{Check, List, Stats, Dump, Set, Repack};
+ghost use Rattle.grib_dates.specs.declared.rule.Dates.TheVariants.{Any};
 ghost use Rattle.grib_run_spec.specs.Tasks.{answer};
 ghost use Rattle.grib_examples.specs.Hex.{hex, put};
 ghost use Rattle.grib_examples.specs.Messages.{m1, m2, m3, c2};
@@ -81,6 +82,6 @@ pub fn answers_to_edition_1()
     ensures dump { answer (Dump None) g1 ≡ done_with (codes "1.1 ed=1 centre=98 time=2024-01-15T12:00 grid=0 points=4 param=2.11 unit=1 range=0 "
         ++ codes "p1=6 p2=0 level=100:500 bits=8 values=4\nreference -949*2^-3 binary -3 decimal 1\n1 0\n2 1\n3 2\n4 255\n") [] }
     ensures repack { answer (Repack Simple) g1 ≡ kept_by EditionOne }
-    ensures set { answer (Set []) g1 ≡ kept_by EditionOne }
+    ensures set { answer (Set [] Any) g1 ≡ kept_by EditionOne }
     ensures grid_type { answer Check (put g1 42 (hex "32")) ≡ refused_after [] 1 (refusal 42 GridType 50) }
 {}
