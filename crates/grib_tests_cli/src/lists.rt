@@ -143,7 +143,7 @@ fn keys_end_with_names(rt: HostRuntime) -> Result<(), Fail> {
     let plain = run_over(alloc, "keys", &PLAIN, 50, CALM)?;
     let ran = named(alloc, "keys names=t", &PLAIN, NAMES, CALM)?;
     let lines = plain.output.octets();
-    let mut wanted = between(lines, 0, lines.len() - 1).to_vec(alloc)?;
+    let mut wanted = between(lines, 0, lines.len().saturating_sub(1)).to_vec(alloc)?;
     wanted.extend_from_slice(b" name=TMP\n")?;
     assert!(rt; ran.gave(Outcome::Done, wanted.as_slice(), ""));
     Ok(())

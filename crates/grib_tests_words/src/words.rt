@@ -35,18 +35,6 @@ fn command_of(asked: &Result<Job, JobFault>) -> &'static str {
         Ok(Job::Stats) => "stats",
         Ok(Job::Dump { .. }) => "dump",
         Ok(Job::Values(_)) => "values",
-        Ok(
-            Job::Lines {
-                form: LineForm::List,
-                ..
-            },
-        ) => "list",
-        Ok(
-            Job::Lines {
-                form: LineForm::Keys | LineForm::Show,
-                ..
-            },
-        ) => "keys",
         Ok(Job::Filter(_) | Job::Filter1(_) | Job::FilterNamed { .. }) => "filter",
         Ok(Job::Split { .. }) => "split",
         Ok(Job::Set { .. } | Job::Set1 { .. }) => "set",

@@ -6,7 +6,7 @@ ghost use Rattle.grib_command.specs.Jobs.{IsJob};
 
 use grib_base::List;
 use grib_engine::{
-    Dates, Cause, Change, Choice, Choices, Job, Kept, Key, Outcome, Test, Value, Wanted, serve,
+    Cause, Change, Choice, Choices, Dates, Job, Kept, Key, Outcome, Test, Value, Wanted, serve,
 };
 use grib_io::{CalmSink, CalmSource, MemoryShelf};
 use grib_samples::{PLAIN, TWO_FIELDS, edited};
