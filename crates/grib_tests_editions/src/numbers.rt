@@ -3,7 +3,7 @@
 
 use grib_engine::{Cause, Kept, Outcome};
 use grib_io::MemoryShelf;
-use grib_samples::{FIRST_EDITION, MASKED, PLAIN, REDUCED, TWO_FIELDS, edited};
+use grib_samples::{FIRST_EDITION, MASKED, PLAIN, REDUCED, TWO_FIELDS, between, edited};
 use grib_test_runs::{CALM, Ran, run_over, run_with};
 use grib1_sections::Key1;
 use std::alloc::{AllocError, Global};
@@ -59,9 +59,9 @@ fn keeps(
 fn messages_are_picked(rt: HostRuntime) -> Result<(), Fail> {
     let alloc = rt.alloc();
     let octets = stream(alloc)?;
-    let all = &octets[183..];
-    let at_500 = &octets[183..271];
-    let at_850 = &octets[271..359];
+    let all = between(&octets, 183, octets.len());
+    let at_500 = between(&octets, 183, 271);
+    let at_850 = between(&octets, 271, 359);
     for (words, wanted) in [
         // A message of edition 2 is no match, whatever is asked.
         ("filter Centre=98", all),
