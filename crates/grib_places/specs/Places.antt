@@ -2,19 +2,19 @@
 -- template 3.0, flag table 3.4, scanning mode). The first and the last point are told in 10^-6 degree: La1, Lo1, La2 and Lo2.
 -- Columns and rows are counted in steps from the first point, so that neither the columns from the west nor the rows from the
 -- north are looked at.
-use Rattle.std.specs.Prelude.{ℕ, ◌+◌, ◌-◌, ◌*◌, ◌%◌, Bool, not, cond, ◌&&◌, ◌==◌, max, Option, Some, None, List, ℤ, pos, neg_ℤ, ◌+ℤ◌, ◌-ℤ◌, ◌*ℤ◌}
+use Rattle.std.specs.Prelude.{ℕ, ◌+◌, ◌-◌, ◌%◌, Bool, not, cond, ◌&&◌, ◌==◌, max, Option, Some, None, List, ℤ, pos, neg_ℤ, ◌+ℤ◌, ◌-ℤ◌, ◌*ℤ◌}
 use Rattle.grib_bits.specs.Octets.{octets, signed_octets}
-use Rattle.grib_rescan.specs.declared.cause.GridCause.{GridCause}
-use Rattle.grib_rescan.specs.declared.cause.GridCause.TheVariants.{GridKind, ScanMode}
 use Rattle.grib_rescan.specs.Causes.{is_lat_lon}
 use Rattle.grib_rescan.specs.Scanning.{Place, scanning_of, along, along_columns, along_rows}
+use Rattle.grib_places.specs.declared.cause.PlaceCause.{PlaceCause}
+use Rattle.grib_places.specs.declared.cause.PlaceCause.TheVariants.{GridKind, ScanMode}
 use Rattle.grib_places.specs.declared.coordinate.Coordinate.{Coordinate}
 use Rattle.grib_places.specs.declared.coordinate.Coordinate.TheVariants.{Latitude, Longitude}
 use Rattle.grib_places.specs.Degrees.{Degrees}
 
 -- The places are not told: first by the kind of the grid, or a basic angle of its own (octets 39-42); then by bits 5 to 8 of the
 -- scanning mode, which are reserved, or say that rows are offset.
-abbrev pub place_cause_of : List ℕ → Option GridCause
+abbrev pub place_cause_of : List ℕ → Option PlaceCause
 place_cause_of s =
     cond (not (is_lat_lon s && (octets s 39 42 == 0))) (Some GridKind)
     (cond (not (octets s 72 72 % 16 == 0)) (Some ScanMode) None)

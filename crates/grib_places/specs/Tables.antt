@@ -1,5 +1,5 @@
 -- What is worked out once for a grid.
-use Rattle.std.specs.Prelude.{◌≡◌, ℕ, ◌<◌, List, map}
+use Rattle.std.specs.Prelude.{◌≡◌, ℕ, List, map}
 use Rattle.std.specs.List.{range_with_len}
 use Rattle.grib_bits.specs.Octets.{octets}
 use Rattle.grib_rescan.specs.Scanning.{scanning_of}

@@ -1,14 +1,20 @@
 //! Laws over the definitions.
 
-ghost use Rattle.std.specs.Prelude.{◌≡◌, ℕ, ◌-◌, ◌≤◌, ◌*ℤ◌, ◌+ℤ◌, ◌≤ℤ◌, List, [], ◌∷◌, pos, neg_ℤ, Some, None, codes};
-ghost use Rattle.grib_bits.specs.Octets.{signed_octets};
-ghost use Rattle.grib_rescan.specs.declared.cause.GridCause.TheVariants.{GridKind, ScanMode};
+ghost use Rattle.std.specs.Prelude.{◌≡◌, ℕ, ◌-◌, ◌*◌, ◌≤◌, ◌*ℤ◌, ◌+ℤ◌, ◌≤ℤ◌, List, [], ◌∷◌, pos, neg_ℤ, Some, None, codes};
+ghost use Rattle.grib_bits.specs.Octets.{octets, signed_octets};
+ghost use Rattle.grib_base.specs.Rows.{first_fault};
+ghost use Rattle.grib_base.specs.declared.profile.Profile.{Profile};
+ghost use Rattle.grib2_grids.specs.Opaque.{grid_rows_under};
+ghost use Rattle.grib_rescan.specs.Sections.{HasPoints, HasTemplate};
+ghost use Rattle.grib_places.specs.declared.cause.PlaceCause.TheVariants.{GridKind, ScanMode};
 ghost use Rattle.grib_rescan.specs.Worked.{grid, north, south, west, east};
 ghost use Rattle.grib_places.specs.declared.coordinate.Coordinate.{Coordinate as Told};
 ghost use Rattle.grib_places.specs.declared.coordinate.Coordinate.TheVariants.{Latitude, Longitude};
 ghost use Rattle.grib_places.specs.Degrees.{degrees_text};
 ghost use Rattle.grib_places.specs.Places.{place_cause_of, parts_of, first_of, way_of, count_of, degrees_at};
 ghost use Rattle.grib_places.specs.Worked.{few, before_greenwich, half, one, minus_one, words_of, micros_of, with_angle};
+
+use grib_rescan::laws::what_has_no_cause;
 
 /// The first point of a column or a row is told, and so is the last. Where the first latitude is the northernmost, as it is where
 /// points of a column go southward, no step leads to the north.
@@ -21,6 +27,17 @@ pub fn what_is_told_is_kept()
     ensures southward { (s : List ℕ) (j k : ℕ) → signed_octets s 56 59 ≤ℤ signed_octets s 47 50 → j ≤ k
         → (degrees_at Latitude s k).number ≤ℤ (degrees_at Latitude s j).number }
 {}
+
+/// What is known where no row of a profile refuses a Section 3, and its places are told: it has its points.
+pub fn what_has_places()
+    ensures template { (profile : Profile) (s : List ℕ) → first_fault (grid_rows_under profile s) ≡ None → HasTemplate s }
+    ensures points { (profile : Profile) (s : List ℕ) → first_fault (grid_rows_under profile s) ≡ None
+        → place_cause_of s ≡ None → HasPoints s }
+    ensures product { (profile : Profile) (s : List ℕ) → first_fault (grid_rows_under profile s) ≡ None
+        → place_cause_of s ≡ None → octets s 31 34 * octets s 35 38 ≡ octets s 7 10 }
+{
+    what_has_no_cause();
+}
 
 /// A grid of 2 by 2 points from 50 to 49 degrees north and from 10 to 11 degrees east, in some scanning modes.
 pub fn worked_orders()

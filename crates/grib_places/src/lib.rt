@@ -14,7 +14,7 @@ mod tables;
 mod text;
 mod words;
 
-pub use cause::place_cause;
+pub use cause::{PlaceCause, place_cause};
 pub use coordinate::Coordinate;
 pub use tables::{PlaceMicros, PlaceWords};
 pub use text::DegreesText;

@@ -1,4 +1,4 @@
-use Rattle.std.proofs.Common.{◌≡◌, ◌+ℤ◌, ◌*ℤ◌, pos, FitsSigned, to_z, of_z, to_z-of_z, ◌∙◌, rules}
+use Rattle.std.proofs.Common.{◌≡◌, pos, FitsSigned, to_z, of_z, to_z-of_z, ◌∙◌, rules}
 use Rattle.std.specs.Int.{w64}
 use Rattle.grib_places.proofs.Sums.{product-fits, sum-fits, sum-small}
 use Rattle.grib_places.proofs.lines.sum_of.Goals as goal
