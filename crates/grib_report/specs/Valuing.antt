@@ -94,12 +94,12 @@ value_command places = reading_values (texts_command places)
 
 -- ---- it is lawful
 
-few_unless : (cause : Option Cause) (m : ℕ) (text : List ℕ) (acts : List Act) (written : ℕ) (message : List ℕ) → text_unless cause m text ≡ Gives acts written
+pub few_unless : (cause : Option Cause) (m : ℕ) (text : List ℕ) (acts : List Act) (written : ℕ) (message : List ℕ) → text_unless cause m text ≡ Gives acts written
     → 20 * written ≤ MOST_OCTETS * length message
 few_unless None m text acts written message is = none_counted text acts written message is
 few_unless (Some cause) m text acts written message is = let no : ⊥ = cc in absurd no
 
-ends_unless : (cause : Option Cause) (m : ℕ) (text : List ℕ) (outcome : Outcome) → text_unless cause m text ≡ Ends outcome → is_of_message outcome ≡ true
+pub ends_unless : (cause : Option Cause) (m : ℕ) (text : List ℕ) (outcome : Outcome) → text_unless cause m text ≡ Ends outcome → is_of_message outcome ≡ true
 ends_unless None m text outcome is = let no : ⊥ = cc in absurd no
 ends_unless (Some cause) m text outcome is = let same : kept_at m cause ≡ outcome = cc in sym (ap is_of_message same)
 

@@ -10,7 +10,7 @@ use grib_io::{Sink, Stop};
 use std::alloc::Global;
 
 /// The fields of a message, with a text for each.
-pub(crate) trait FieldTexts {
+pub trait FieldTexts {
     /// The number of fields.
     ghost count: { Self → ℕ };
 
@@ -36,7 +36,7 @@ pub(crate) trait FieldTexts {
 }
 
 /// Writes the text of each field through one buffer.
-pub(crate) fn write_fields<F: FieldTexts, T: Sink>(
+pub fn write_fields<F: FieldTexts, T: Sink>(
     texts: &F,
     alloc: Global,
     output: &mut T,

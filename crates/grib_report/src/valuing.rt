@@ -106,9 +106,13 @@ fn first_cause(
     Ok(range_cause(&column, &reference, places, 1))
 }
 
-/// The cause by which a message of edition 2 cannot be printed: its first value that is too large
-/// for a text.
-fn second_cause(
+/// The cause by which a message of edition 2 cannot be printed with values of this many places: its first value that is
+/// too large for a text.
+///
+/// # Errors
+///
+/// There is no memory.
+pub fn decimal_cause(
     alloc: Global,
     message: &ReadableMessage<'_>,
     places: u32,
@@ -194,7 +198,7 @@ fn write_second<T: Sink>(
     ensures { AnswersByOutput T.contents T.faults T.settled result place.now.message
         (values.second_given places place.now message.now) output.old output.new }
 {
-    match second_cause(alloc, message, places) {
+    match decimal_cause(alloc, message, places) {
         Ok(None) => {
             let fields = ValuedFields {
                 places,

@@ -1,6 +1,6 @@
 use Rattle.std.proofs.Common.{◌≡◌, ◌+◌, ◌<◌, ℕ, None}
 use Rattle.grib_report.specs.Valuing.{field_cause}
-use Rattle.grib_report.proofs.valuing.second_cause.Given as goal
+use Rattle.grib_report.proofs.valuing.decimal_cause.Given as goal
 
 -- none of the fields so far has a cause
 abbrev pub invariant-loop-index : goal.invariant-loop-index

@@ -3,7 +3,7 @@ use Rattle.std.proofs.lemmas.Bool.{cases_lt}
 use Rattle.grib2_message.specs.Fields.{field_count}
 use Rattle.grib_report.specs.Valuing.{field_cause}
 use Rattle.grib_report.proofs.Causes.{causes_at, causes_none, not_some}
-use Rattle.grib_report.proofs.valuing.second_cause.Goals as goal
+use Rattle.grib_report.proofs.valuing.decimal_cause.Goals as goal
 
 pub returns-then-is_some : goal.returns-then-is_some
 returns-then-is_some c =
