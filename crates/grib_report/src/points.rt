@@ -19,11 +19,7 @@ const FULL: usize = 65_536;
 pub const ROOM: usize = FULL + 1024;
 
 /// Appends some text to the buffer, which is passed on first where it is full.
-pub fn append_text<T: Sink>(
-    lines: &mut Vec<u8>,
-    text: &[u8],
-    output: &mut T,
-) -> Result<(), Stop>
+pub fn append_text<T: Sink>(lines: &mut Vec<u8>, text: &[u8], output: &mut T) -> Result<(), Stop>
     ensures { WritesToAllBut T.contents T.faults T.settled result output.old output.new
         (lines.old.items ++ text.now) lines.new.items }
 {

@@ -39,7 +39,7 @@ pub(crate) fn append_array<T: Sink>(
 }
 
 /// Appends the header of an array to the buffer, which is passed on first where it is full.
-fn append_head<T: Sink>(
+pub(crate) fn append_head<T: Sink>(
     alloc: Global,
     format: Format,
     shape: Shape,
