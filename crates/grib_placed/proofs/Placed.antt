@@ -61,3 +61,14 @@ value_placed_is places m number i s listed reference column scale is_s is_column
     ∙ ap (λ (k : Scale). placed (part_octets m i 3) (value_text k) (list_line m number i) reference column) is_scale
     ∙ ap (λ (r : Binary). placed (part_octets m i 3) (value_text (scale_by places r column)) (list_line m number i) r column) is_reference
     ∙ ap (λ (x : Column). placed (part_octets m i 3) (value_text (scale_by places (reduced (ieee x.reference)) x)) (list_line m number i) (reduced (ieee x.reference)) x) is_column
+
+-- a number, a latitude and a longitude, each with a blank behind it
+regroup : (old number blank latitude longitude : List ℕ) → (((((old ++ number) ++ blank) ++ latitude) ++ blank) ++ longitude) ++ blank
+    ≡ old ++ (number ++ blank ++ (latitude ++ blank ++ longitude) ++ blank)
+regroup old number blank latitude longitude = simp append_assoc
+
+pub place_is : (old number blank latitude longitude one two three four five six : List ℕ) → one ≡ old ++ number → two ≡ one ++ blank → three ≡ two ++ latitude
+    → four ≡ three ++ blank → five ≡ four ++ longitude → six ≡ five ++ blank → six ≡ old ++ (number ++ blank ++ (latitude ++ blank ++ longitude) ++ blank)
+place_is old number blank latitude longitude one two three four five six is_one is_two is_three is_four is_five is_six =
+    is_six ∙ ap (λ (xs : List ℕ). xs ++ blank) (is_five ∙ ap (λ (xs : List ℕ). xs ++ longitude) (is_four ∙ ap (λ (xs : List ℕ). xs ++ blank)
+    (is_three ∙ ap (λ (xs : List ℕ). xs ++ latitude) (is_two ∙ ap (λ (xs : List ℕ). xs ++ blank) is_one)))) ∙ regroup old number blank latitude longitude

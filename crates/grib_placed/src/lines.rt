@@ -44,7 +44,8 @@ impl PlaceTexts {
         ensures { (s : List ℕ) → ArePlacesOf self.now s → OnOk result
             (lines.new.items ≡ lines.old.items ++ (decimal (index + 1) ++ codes " " ++ place_text s index ++ codes " ")) }
     {
-        self.whole.append(lines, i64::from(index) + 1)?;
+        let number = index + 1;
+        self.whole.append(lines, i64::from(number))?;
         lines.push(b' ')?;
         self.degrees.append(lines, self.latitudes.micro(index))?;
         lines.push(b' ')?;
