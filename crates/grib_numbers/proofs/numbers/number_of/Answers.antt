@@ -1,6 +1,6 @@
 use Rattle.std.proofs.Common.{sym, ◌∙◌}
-use Rattle.grib_words.proofs.Numbers.{unsigned}
-use Rattle.grib_words.proofs.values.number_of.Goals as goal
+use Rattle.grib_numbers.proofs.Parsed.{unsigned}
+use Rattle.grib_numbers.proofs.numbers.number_of.Goals as goal
 
 pub returns-then-begins_from_one : goal.returns-then-begins_from_one
 returns-then-begins_from_one c =

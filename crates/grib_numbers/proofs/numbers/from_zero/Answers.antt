@@ -1,6 +1,6 @@
 use Rattle.std.proofs.Common.{sym, ◌∙◌}
-use Rattle.grib_words.proofs.Numbers.{signed}
-use Rattle.grib_words.proofs.values.from_zero.Goals as goal
+use Rattle.grib_numbers.proofs.Parsed.{signed}
+use Rattle.grib_numbers.proofs.numbers.from_zero.Goals as goal
 
 pub returns-then-begins_from_one : goal.returns-then-begins_from_one
 returns-then-begins_from_one c =

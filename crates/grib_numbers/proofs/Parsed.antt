@@ -6,13 +6,13 @@ use Rattle.std.specs.Result.{OkIff, result_ok}
 use Rattle.std.specs.Str.{all_ascii_digits}
 use Rattle.std.specs.Str.Parse.{ParsesUnsigned, ParsesSigned}
 use Rattle.std.proofs.lemmas.Str.Parse.{IsNumeralModel, numerals_by_fold, parse_plain, parse_signed_plain, parse_signed_minus}
-use Rattle.grib_words.specs.Values.{number_on, number, begins_from_one, is_number, from_zero, below_zero}
+use Rattle.grib_numbers.specs.Numbers.{number_on, number, begins_from_one, is_number, from_zero, below_zero}
 
 pub own : IsNumeralModel (λ ds. all_ascii_digits ds ≡ true) number
 own = numerals_by_fold _ (search rules) number_on (search rules)
 
 -- a call that is Ok just where a test holds
-by_test : {A E : Type 0} (r : Result A E) (Q : Type 0) (v : A) (b : Bool) → OkIff r Q v → (b ≡ true → Q) → (Q → b ≡ true)
+pub by_test : {A E : Type 0} (r : Result A E) (Q : Type 0) (v : A) (b : Bool) → OkIff r Q v → (b ≡ true → Q) → (Q → b ≡ true)
     → result_ok r ≡ cond b (Some v) None
 by_test (Ok x) Q v b h from to = rw (to h.0) (ap Some h.1)
 by_test (Err e) Q v true h from to = absurd (h (from refl))
@@ -39,7 +39,7 @@ from_one : (bs : List ℕ) → begins_from_one bs ≡ true → 1 ≤ number bs
 from_one [] begins = cc
 from_one (c ∷ cs) begins = omega (arith, grows (0 * 10 + (c - 48)) cs, first_digit (c ∷ cs) begins)
 
-and_true : (a b : Bool) → (a && b) ≡ true → (a ≡ true) × (b ≡ true)
+pub and_true : (a b : Bool) → (a && b) ≡ true → (a ≡ true) × (b ≡ true)
 and_true true b h = (refl, h)
 and_true false b h = cc
 

@@ -1,6 +1,6 @@
 use Rattle.std.proofs.Common.{sym, ◌∙◌}
-use Rattle.grib_words.proofs.Numbers.{negative}
-use Rattle.grib_words.proofs.values.below_zero.Goals as goal
+use Rattle.grib_numbers.proofs.Parsed.{negative}
+use Rattle.grib_numbers.proofs.numbers.below_zero.Goals as goal
 
 pub returns-then-begins_below_zero : goal.returns-then-begins_below_zero
 returns-then-begins_below_zero c =

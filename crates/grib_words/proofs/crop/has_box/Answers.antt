@@ -1,6 +1,6 @@
 use Rattle.std.proofs.Common.{string_bytes, sym, ◌∙◌}
 use Rattle.grib_words.proofs.Asked.{sides_stand}
-use Rattle.grib_words.proofs.reading.has_box.Goals as goal
+use Rattle.grib_words.proofs.crop.has_box.Goals as goal
 
 pub number_by-requires : goal.number_by-requires
 number_by-requires c = (sides_stand string_bytes c.args.words.now c.requires (sym c.has_sides.ensures ∙ c.if-not-has_sides.false)).i0
