@@ -1,0 +1,26 @@
+use Rattle.std.proofs.Common.{IfOk, ◌≡◌, ◌≤◌, length, ◌∙◌, ap, subst, rules, arith}
+use Rattle.grib_reasons.specs.declared.cause.Cause.TheVariants.{Demoted}
+use Rattle.grib_demote.specs.Demoted.{first_loss}
+use Rattle.grib_command.proofs.Outside.{front_none}
+use Rattle.grib_command.specs.LawfulCommands.{unmapped}
+use Rattle.grib_command.specs.Pending.{WritesTo}
+use Rattle.grib_edit.specs.Demoting.{few_octets}
+use Rattle.grib_edit.proofs.demoting.write_field.Goals as goal
+
+pub returns-in-Ok-clause-writes : goal.returns-in-Ok-clause-writes
+returns-in-Ok-clause-writes g c =
+    subst (WritesTo g.T.Sink.contents g.T.Sink.faults g.T.Sink.settled c.write_counted.result _ _) (c.as_slice.ensures.value ∙ c.in-Ok.ensures.1) c.write_counted.ensures.writes
+
+pub returns-in-Ok-clause-count : goal.returns-in-Ok-clause-count
+returns-in-Ok-clause-count g c =
+    subst (λ octets. IfOk c.write_counted.result (λ count. count ≡ length octets)) (c.as_slice.ensures.value ∙ c.in-Ok.ensures.1) c.write_counted.ensures.count
+
+pub returns-in-Ok-clause-few : goal.returns-in-Ok-clause-few
+returns-in-Ok-clause-few g c = ?
+
+pub returns-in-Err-clause-writes : goal.returns-in-Err-clause-writes
+returns-in-Err-clause-writes g c = record {
+  octets = record { whole = search rules; front = front_none _ _ };
+  counted = search rules;
+  unfinished = search rules;
+}
