@@ -16,10 +16,10 @@ use grib_edit::{
     Rescanning, Setting, Setting1, Shrinking, Splitting,
 };
 use grib_io::{Shelf, Sink};
+use grib_placed::{PlacedDumping, PlacedValuing};
 use grib_reorder::GridEdit;
 use grib_report::{
-    Checking, Dumping, Keying, Lining, Listing, PlacedDumping, PlacedValuing, Printing,
-    PrintingValues, Summing, Valuing,
+    Checking, Dumping, Keying, Lining, Listing, Printing, PrintingValues, Summing, Valuing,
 };
 use grib_stream::Place;
 use grib_table::Tables;

@@ -25,9 +25,8 @@ use grib_io::{Shelf, Sink, Source};
 use grib_items::{Policy, answer_items};
 use grib_migrate::Local;
 use grib_params::TableMatch;
-use grib_report::{
-    Dumping, Lining, PlacedDumping, PlacedValuing, Printing, PrintingValues, Valuing,
-};
+use grib_placed::{PlacedDumping, PlacedValuing};
+use grib_report::{Dumping, Lining, Printing, PrintingValues, Valuing};
 use grib_stream::{LIMIT, Outcome};
 use grib_table::{Tables, TablesStop, read_tables};
 use grib_text::{Column, Columns, LineForm};

@@ -43,7 +43,10 @@ use Rattle.grib_report.specs.Lining.{lines_command}
 use Rattle.grib_report.specs.Summing.{stats_command}
 use Rattle.grib_report.specs.Dumping.{dump_command}
 use Rattle.grib_report.specs.Valuing.{text_unless, value_command}
+use Rattle.grib_placed.specs.Dumping.{dump_placed_command}
+use Rattle.grib_placed.specs.Valuing.{value_placed_command}
 use Rattle.grib_values.specs.Arrays.{values_command}
+use Rattle.grib_values.specs.Coordinates.{coordinates_command}
 use Rattle.grib_edit.specs.Filtering.{filter_command}
 use Rattle.grib_edit.specs.FilteringNamed.{filter_named_command}
 use Rattle.grib_edit.specs.Filtering1.{filter1_command}

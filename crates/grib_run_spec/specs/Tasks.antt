@@ -45,7 +45,10 @@ use Rattle.grib_edit.specs.Setting1.{set1_command}
 use Rattle.grib_edit.specs.Splitting.{split_command}
 use Rattle.grib_report.specs.Summing.{stats_command}
 use Rattle.grib_report.specs.Valuing.{value_command}
+use Rattle.grib_placed.specs.Dumping.{dump_placed_command}
+use Rattle.grib_placed.specs.Valuing.{value_placed_command}
 use Rattle.grib_values.specs.Arrays.{values_command}
+use Rattle.grib_values.specs.Coordinates.{coordinates_command}
 
 -- A stated answer: all that is done, the lines that are noted of what the run goes past, what is noted behind them, and how
 -- the run ends.
