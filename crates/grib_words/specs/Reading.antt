@@ -271,10 +271,13 @@ abbrev pub degrees_by : List ℕ → List (List ℕ) → ℤ
 degrees_by name words = unwrap_or (degrees_of (value_of name words)) (pos 0)
 
 -- all edges of a box in degrees are there, and the south is not north of the north
+abbrev pub has_all_edges : List (List ℕ) → Bool
+has_all_edges words =
+    has_name (codes "north") words && (has_name (codes "south") words && (has_name (codes "west") words && has_name (codes "east") words))
+
 abbrev pub has_edges : List (List ℕ) → Bool
 has_edges words =
-    (has_name (codes "north") words && (has_name (codes "south") words && (has_name (codes "west") words && has_name (codes "east") words)))
-    && int_le (degrees_by (codes "south") words) (degrees_by (codes "north") words)
+    has_all_edges words && int_le (degrees_by (codes "south") words) (degrees_by (codes "north") words)
 
 -- some of the sides are there, or some of the edges
 abbrev pub has_a_side : List (List ℕ) → Bool

@@ -1,6 +1,6 @@
 //! What `crop` is asked for: a box by columns and rows, a box in degrees, or the point nearest to a place.
 
-ghost use Rattle.std.specs.Prelude.{◌≡◌, [], length, map, string_bytes};
+ghost use Rattle.std.specs.Prelude.{◌≡◌, [], length, map, int_le, string_bytes};
 ghost use Rattle.grib_words.specs.Reading as grammar;
 ghost use Rattle.grib_words.specs.Reading.{box_entries, crop_entries, degree_entries};
 ghost use Rattle.grib_words.specs.Words as asked;
@@ -80,11 +80,24 @@ pub fn has_a_side(words: &[String]) -> bool
 fn has_edges(words: &[String]) -> bool
     ensures { result ≡ grammar.has_edges (map string_bytes words.now) }
 {
+    has_all_edges(words) && in_order(degrees_by(words, "south"), degrees_by(words, "north"))
+}
+
+/// Whether all edges of a box in degrees are among the arguments.
+fn has_all_edges(words: &[String]) -> bool
+    ensures { result ≡ grammar.has_all_edges (map string_bytes words.now) }
+{
     has_name(words, "north")
         && has_name(words, "south")
         && has_name(words, "west")
         && has_name(words, "east")
-        && degrees_by(words, "south") <= degrees_by(words, "north")
+}
+
+/// Whether the first number is at most the second.
+fn in_order(least: i32, most: i32) -> bool
+    ensures { result ≡ int_le least most }
+{
+    least <= most
 }
 
 /// Whether some of the edges of a box in degrees are among the arguments.
