@@ -1,6 +1,6 @@
 -- The fields of a message that are demoted, one after another.
-use Rattle.std.proofs.Common.{◌≡◌, ℕ, zero, suc, ◌+◌, ◌-◌, ◌<◌, Option, Some, None, refl, sym, ap, ◌∙◌, subst, arith}
-use Rattle.std.specs.Prelude.{Result, Ok, Err, MatchResult}
+use Rattle.std.proofs.Common.{◌≡◌, ℕ, zero, suc, ◌+◌, ◌-◌, ◌<◌, ◌≤◌, Option, Some, None, refl, sym, ap, ◌∙◌, subst, arith}
+use Rattle.std.specs.Prelude.{Result, Ok, Err, IfOk, MatchResult}
 use Rattle.std.specs.Result.{IsErrAnd}
 use Rattle.std.specs.Option.{option_or}
 use Rattle.grib_reasons.specs.declared.cause.Cause.{Cause}
@@ -54,3 +54,8 @@ pub kept_carried : {A : Type 0} (P : A → Type 0) (cause : Option Cause) (resul
     → IsKept cause answered → MatchResult result P (IsKept cause)
 kept_carried P cause (Ok x) answered is kept = absurd is
 kept_carried P cause (Err e) answered is kept = subst (IsKept cause) (sym is) kept
+
+-- what is counted is no more than this
+pub few_counted : {E : Type 0} (result : Result ℕ E) (most l : ℕ) → l ≤ most → IfOk result (λ count. count ≡ l) → IfOk result (λ count. count ≤ most)
+few_counted (Ok count) most l few is = omega (arith, few, is)
+few_counted (Err e) most l few is = tt

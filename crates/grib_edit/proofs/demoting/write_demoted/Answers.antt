@@ -1,7 +1,10 @@
-use Rattle.std.proofs.Common.{refl}
+use Rattle.std.proofs.Common.{refl, ◌∙◌}
 use Rattle.grib_command.proofs.Answers.{by_octets}
 use Rattle.grib_edit.proofs.KeptBy.{kept}
 use Rattle.grib_edit.proofs.demoting.write_demoted.Goals as goal
+
+pub write_fields-requires : goal.write_fields-requires
+write_fields-requires g c = c.as_slice.ensures.value ∙ c.in-Ok.ensures.1
 
 pub returns-in-Ok : goal.returns-in-Ok
 returns-in-Ok g c = λ place.
