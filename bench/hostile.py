@@ -1031,7 +1031,7 @@ def hold_keys(plain, fields, runner, data, accepted):
         hold(line["ed"] == field["ed"], "keys names another edition")
         hold(line["ed"] == "1" or (line["points"], "5." + line["packing"]) == (field["points"], field["packing"]), "keys prints other numbers", line)
     for line in lines_of(plain.output)[:2]:
-        label, edition, *words = line.split()
+        label, edition, *words = [word for word in line.split() if not word.startswith("name=")]
         if edition != "ed=2":
             return
         message = int(label.split(".")[0])
