@@ -52,7 +52,7 @@ def steps(section):
 def quotients(section):
     """The longitudes of the columns and the latitudes of the rows, as pairs of whole numbers, in 10^-6 degree."""
     (ni, nj), (la1, la2, lo1, lo2) = size(section), (signed(section, 47, 50), signed(section, 56, 59), number(section, 51, 54), number(section, 60, 63))
-    way = -((lo1 - lo2) % ROUND) if section[71] & 128 else (lo2 - lo1) % ROUND
+    way = -((lo1 - lo2) % ROUND or ROUND) if section[71] & 128 else (lo2 - lo1) % ROUND or ROUND
     columns, rows = max(ni - 1, 1), max(nj - 1, 1)
     return [(lo1 * columns + way * i, columns) for i in range(ni)], [(la1 * rows + (la2 - la1) * j, rows) for j in range(nj)]
 

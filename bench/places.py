@@ -245,7 +245,10 @@ def against_cdo(program, path, message, words, edges, subarea, field, section, c
     columns, rows = subarea
     ni = size(section)[0]
     width = min(east - west, ROUND) if west <= east else (east - west) % ROUND
-    told = ",".join(f"{one / 1_000_000:.6f}" for one in (west, west + width, south, north))
+    # CDO has latitudes and longitudes in floating-point numbers, so that a point on an edge may be outside: its box is wider by
+    # less than 10^-6 degree on each side.
+    more = 0.4 if width < ROUND else 0
+    told = ",".join(f"{one / 1_000_000:.7f}" for one in (west - more, west + width + more, south - 0.4, north + 0.4))
     file, cdo = in_file(message, ["cdo", "-s", "outputf,%.17g,1", f"-sellonlatbox,{told}", "-setmissval,-9e33", None])
     with file:
         theirs = values_of(cdo)
