@@ -5,7 +5,7 @@
 
 A case takes a few messages of the files, of docs/WORKED.md and of `make`, and some of them in CCSDS packing, damages them
 (cuts, flips, splices, repeats, other lengths and counts, sizes that are claimed, other packed data), and gives them to `check` and to one command with words that
-it may have, among them lists and ranges of filter, refused= and kept=: from a file,
+it may have, all arguments of all commands among them: from a file,
 and in one more way: through a pipe in random pieces, to a reader that goes away, to a full device, to a closed
 output, with notes that cannot be written, with a directory as input or none, with 3 to 60 MB of address space. With
 `profile=open` each run of a command that reads messages has this argument, `to=42` is among the commands, and what the
@@ -13,7 +13,9 @@ stated profile answers has to be what the open one answers, as far as it goes; w
 it. The cases hang on `seed`, the profile and their number alone; `case=N` runs one of them. `runs` is how often the program is started,
 `jobs` how many processes share the work; an interrupt ends it after the case at hand, with the sums so far. Each
 finding is a line, and its input is kept in the folder `keep` (hostile-findings), as small as cutting makes it.
-Commands that the program does not have yet are left out. Needs Python 3.8 and Linux."""
+What is printed and written is also worked out here: arrays, latitudes and longitudes, boxes in degrees, columns of lists, names, keys
+of edition 1. Commands and arguments that the program does not have yet are left out. Needs Python 3.8 and Linux."""
+import calendar
 import collections
 import fractions
 import multiprocessing
@@ -27,7 +29,10 @@ import sys
 import tempfile
 import time
 
+from decimals import fields_of
+from grids import ROUND, arrays, cause, degrees, grids, has_steps, in_box, nearest, texts
 from messages import reference_of
+from values import words_of
 
 top = os.path.dirname(os.path.dirname(os.path.abspath(__file__)))
 MEGABYTE = 1 << 20
@@ -43,19 +48,26 @@ LOSSES = r"(Parameter|LevelType|TimeUnit|TimeRange|Date|AverageCount|LocalUse|Gr
 DEMOTIONS = r"(Product|GridTemplate|Centre|Parameter|Level|TimeUnit|Process|Date|Interval|LocalUse|EarthShape|GridFlags|RowList|Reference)"
 NUMBERED = r"(GridNumber|Coordinate|SecondaryMissing|OutOfRange|TooLong)"
 CAUSES = {
-    "filter": ["EditionOne"], "split": ["EditionOne"], "set": ["EditionOne", r"KeyRange \w+", r"KeyAbsent \w+ field \d+"],
+    "filter": ["EditionOne"], "split": ["EditionOne"], "set": ["EditionOne", "EditionTwo", "Date", r"KeyRange \w+", r"KeyAbsent \w+ field \d+"],
     "repack": ["EditionOne", r"SecondaryMissing field \d+ point \d+", r"OutOfRange field \d+ point \d+",
                r"DifferenceRange field \d+", r"OutputTooLong \d+"],
     "migrate": ["Loss " + LOSSES], "demote": [rf"Demotion ({DEMOTIONS} field \d+|{NUMBERED} \d+ field \d+)"],
-    "dump": [r"DecimalRange field \d+ point \d+"],
+    "coordinates": ["EditionOne", r"(GridKind|ScanMode) field \d+"],
 }
+CAUSES["dump"] = CAUSES["coordinates"] + [r"DecimalRange field \d+ point \d+"]
 CAUSES["rescan"] = CAUSES["crop"] = CAUSES["repack"] + [r"(GridKind|ScanMode|OutsideBox|Increments) field \d+"]
 PACKING = r"Packing (\d+) field \d+"  # of a field whose packing the open profile does not read
 READ_PACKINGS = (0, 2, 3, 42)
 TARGETS = (["to=0"], ["to=2"], ["to=3", "order=1"], ["to=3", "order=2"])
 COPIES = ("filter", "split", "set", "repack", "migrate", "demote", "rescan", "crop")
-READERS = ("check", "list", "keys", "stats", "dump")
-READ_VALUES = ("dump", "stats", "repack", "rescan", "crop", "demote")
+READERS = ("check", "list", "keys", "stats", "dump", "values", "coordinates")
+READ_VALUES = ("dump", "values", "stats", "repack", "rescan", "crop", "demote")
+# The keys of edition 1: the octet of Section 1 at which each begins, and its octets.
+FIRST_KEYS = {"Version": (4, 1), "Centre": (5, 1), "Process": (6, 1), "GridNumber": (7, 1), "Flags": (8, 1), "Parameter": (9, 1), "LevelType": (10, 1),
+              "Level": (11, 2), "YearOfCentury": (13, 1), "Month": (14, 1), "Day": (15, 1), "Hour": (16, 1), "Minute": (17, 1), "Unit": (18, 1), "P1": (19, 1),
+              "P2": (20, 1), "TimeRange": (21, 1), "AverageCount": (22, 2), "AverageMissing": (24, 1), "Century": (25, 1), "SubCentre": (26, 1), "DecimalScale": (27, 2)}
+FIXED_FIRST = ("Flags", "DecimalScale")
+NAMES = f"names={top}/params/names2.csv"
 NO_INPUT = ("make", "help", "version", "--help", "--version")
 OPEN = []  # `profile=open`, where the runs are by the open profile
 FAULTS = {5: "read fault", 6: "", 7: "shelf fault", 8: "memory", 9: "input too long"}
@@ -380,6 +392,67 @@ def key_table():
 KEYS = key_table()
 
 
+def name_table():
+    """The names of parameters, by the three numbers as `list` prints them."""
+    with open(f"{top}/params/names2.csv", encoding="utf-8") as table:
+        rows = [line.rstrip().split(",") for line in table]
+    return {".".join(row[:3]): row[3] for row in rows if len(row) == 4}
+
+
+TABLE_OF_NAMES = name_table()
+
+
+def first_value(message, key):
+    """The value of a key of edition 1, as it is written."""
+    at, width = FIRST_KEYS[key]
+    value = int.from_bytes(message[7 + at:7 + at + width], "big")
+    return str(32768 - value if key == "DecimalScale" and value > 32768 else value % 32768 if key == "DecimalScale" else value)
+
+
+def first_words(draw, can_set, pool):
+    """One to three keys of edition 1, with values of some message in most cases."""
+    found = [one for one in pool if one[7] == 1 and len(one) > 40]
+    message, words = draw.choice(found) if found else None, []
+    for key in draw.sample([key for key in FIRST_KEYS if not can_set or key not in FIXED_FIRST], draw.choice((1, 1, 2, 3))):
+        value = draw.choice((0, 1, 2, 11, 98, 100, 255, 256, 500, 65_535, 65_536, -1))
+        if message and draw.random() < 0.7:
+            value = first_value(message, key)
+        mark = ""
+        if not can_set and draw.random() < 0.3:
+            value = draw.choice((f"{value},7", f"..{abs(int(value))}", f"{value}..", f"1..5,{value},300.."))
+            mark = draw.choice(("", "!"))
+        words.append(f"{key}{mark}={value}")
+    return words
+
+
+def column_words(draw, name):
+    """A list of columns for `list` or `keys`."""
+    return f"{name}=" + ",".join(draw.choices(list(KEYS) + list(FIRST_KEYS) + ["octets"] + ["at"] * (name == "with"), k=draw.choice((1, 2, 3, 8))))
+
+
+def name_words(draw):
+    """Names of parameters, some of which no parameter has, and their table."""
+    names = draw.sample(list(TABLE_OF_NAMES.values()), draw.choice((1, 2, 40))) + draw.choice(([], ["t", "gh", "u", "v"], ["none-of-these"]))
+    words = ["name=" + ",".join(names), draw.choice((NAMES,) * 9 + ("names=absent",))]
+    draw.shuffle(words)
+    return words
+
+
+def degree_words(draw):
+    """A box in degrees or a place."""
+    def angle(most):
+        return degrees(draw.choice((0, most, -most, draw.randint(-most, most), draw.randint(-most, most) // 1_000_000 * 1_000_000, draw.randint(-most // 4, most // 4))))
+    if draw.random() < 0.4:
+        words = [f"lat={angle(90_000_000)}", f"lon={angle(ROUND)}"]
+    elif draw.random() < 0.5:
+        words = ["north=90", "south=-90", f"west={angle(ROUND)}", f"east={angle(ROUND)}"]
+    else:
+        north, south = sorted((angle(90_000_000), angle(90_000_000)), key=float, reverse=True)
+        words = [f"north={north}", f"south={south}", f"west={angle(ROUND)}", f"east={angle(ROUND)}"]
+    draw.shuffle(words)
+    return words
+
+
 def in_force(message):
     """For each field of a message of edition 2 where the sections begin that are in force for it."""
     starts = {0: 0}
@@ -430,6 +503,15 @@ def wrong_words(draw):
                         ["demote", "params=absent", "surfaces=absent"], ["rescan", "x=1"], ["crop", "i0=1", "i1=0", "j0=0", "j1=0"],
                         ["crop", "i0=0", "i1=33554432", "j0=0", "j1=0"], ["list", "refused=copy"], ["keys", "refused=copy"],
                         ["split", "out=shelf/part", "kept=copy", "kept=pass"], ["repack", "to=0", "refused=copy", "refused=copy"],
+                        ["values", "as=f2"], ["values", "place=yes"], ["coordinates", "as=f4"], ["coordinates", "kept=copy"], ["dump", "place=no"],
+                        ["dump", "place=yes", "place=yes"], ["crop", "lat=1"], ["crop", "lat=1", "lon=1", "i0=0"], ["crop", "lat=90.0000001", "lon=0"],
+                        ["crop", "lat=91", "lon=0"], ["crop", "lat=01", "lon=0"], ["crop", "lat=1.", "lon=0"], ["crop", "lat=1e1", "lon=0"],
+                        ["crop", "north=0", "south=0.000001", "west=0", "east=0"], ["crop", "north=1", "south=0", "west=0"],
+                        ["crop", "north=1", "south=0", "west=0", "east=360.5"], ["crop", "i0=0", "i1=1", "j0=0", "j1=1", "north=1"],
+                        ["list", "with=none"], ["list", "with=centre,"], ["list", "show=centre"], ["keys", "with=centre"], ["keys", "show="],
+                        ["filter", "name=t"], ["filter", NAMES], ["filter", "name=t", NAMES, "Centre=98"], ["filter", "centre=98", "Centre=98"],
+                        ["set", "Flags=1"], ["set", "Centre=98", "year=2024"], ["set", "Centre=missing"], ["set", "dates=valid"],
+                        ["set", "centre=98", "dates=any"], ["split", "editions=both"], ["split", "out=shelf/part", "editions=one"],
                         ["check", "refused=skip"], ["list", "kept=pass"], ["dump", "kept=copy"], ["filter", "refused=pass"],
                         ["repack", "to=42", "order=1"], ["check", "profile=stated"], ["check", "profile=open", "profile=open"],
                         ["make", "seed=1", "ni=1", "nj=1", "to=42"], ["make", "seed=1", "ni=1", "nj=1", "to=0", "profile=open"])
@@ -439,7 +521,7 @@ def wrong_words(draw):
 def policy_words(draw, name):
     """What of a run goes on after what it refuses or keeps."""
     refused = ["refused=pass"] + ["refused=copy"] * (name in COPIES)
-    kept = ["kept=copy", "kept=pass"] if name in COPIES else ["kept=pass"] if name == "dump" else []
+    kept = ["kept=copy", "kept=pass"] if name in COPIES else ["kept=pass"] if name in ("dump", "values", "coordinates") else []
     one, other = [draw.choice(refused)], [draw.choice(kept)] if kept else []
     return draw.choice((one, other, one + other))
 
@@ -456,12 +538,32 @@ def command_of(draw, has, pool):
 def plain_command_of(draw, has, pool):
     """The arguments of a command, valid ones in most cases."""
     name = draw.choice([one for one in ("check", "list", "dump", "filter", "filter", "split", "set", "set", "repack", "repack", "repack",
-                                        "make", "stats", "keys", "rescan", "crop", "migrate", "migrate", "demote", "demote", "decimals", "words", "help")
+                                        "make", "stats", "keys", "rescan", "crop", "migrate", "migrate", "demote", "demote", "decimals", "words", "help",
+                                        "values", "coordinates", "coordinates", "places", "degrees", "degrees", "columns", "names", "names", "first", "first", "dates", "editions")
                         if one in has])
     if name == "help":
         return [draw.choice(("help", "version", "--help", "--version"))]
     if name == "decimals":
         return ["dump", f"decimals={draw.choice((0, 1, 2, 3, 7, 18))}"]
+    if name == "values":
+        return ["values"] + draw.choice(([], ["as=f8"], ["as=f4"]))
+    if name == "places":
+        return draw.choice((["dump", "place=yes"], ["dump", "place=yes", f"decimals={draw.choice((0, 2, 18))}"]))
+    if name == "degrees":
+        return ["crop"] + degree_words(draw)
+    if name == "columns":
+        command, name = draw.choice((("list", "with"), ("keys", "show")))
+        return [command, column_words(draw, name)]
+    if name == "names":
+        return draw.choice((["list", NAMES], ["keys", NAMES], ["list", column_words(draw, "with"), NAMES], ["keys", NAMES, column_words(draw, "show")],
+                            ["list", "names=absent"], ["filter"] + name_words(draw), ["filter"] + key_words(draw, False, pool) + name_words(draw)))
+    if name == "first":
+        return draw.choice((["filter"] + first_words(draw, False, pool), ["set"] + first_words(draw, True, pool)))
+    if name == "dates":
+        edits = key_words(draw, True, pool) if draw.random() < 0.3 else draw.choice((["month=2", f"day={draw.choice((28, 29, 30))}"], ["hour=24"], ["year=0"], ["second=59", "minute=60"], ["Month=2", "Day=30"], ["Hour=23"], ["Century=0"]))
+        return ["set"] + edits + ["dates=valid"]
+    if name == "editions":
+        return ["split", "out=shelf/part", "editions=both"]
     if name == "filter":
         return ["filter"] + key_words(draw, False, pool)
     if name == "set":
@@ -495,7 +597,10 @@ def commands_of(program):
         for name, words in (("stats", ["stats"]), ("rescan", ["rescan"]), ("crop", ["crop", "i0=0", "i1=0", "j0=0", "j1=0"]),
                             ("decimals", ["dump", "decimals=2"]), ("migrate", ["migrate", f"params={top}/params/standard.csv"]), ("keys", ["keys"]),
                             ("least", ["repack", "to=least"]), ("policy", ["repack", "to=0", "refused=copy", "kept=copy"]),
-                            ("demote", ["demote", f"params={top}/params/standard.csv"]), ("coded", ["repack", "to=42"] + OPEN)):
+                            ("demote", ["demote", f"params={top}/params/standard.csv"]), ("coded", ["repack", "to=42"] + OPEN),
+                            ("values", ["values"]), ("coordinates", ["coordinates"]), ("places", ["dump", "place=yes"]), ("degrees", ["crop", "lat=0", "lon=0"]),
+                            ("columns", ["list", "with=centre"]), ("names", ["list", NAMES]), ("first", ["filter", "Centre=98"]), ("dates", ["set", "centre=98", "dates=valid"]),
+                            ("editions", ["split", "out=shelf/part", "editions=both"])):
             if runner.run(words, b"").status == 0:
                 has.add(name)
         return has
@@ -566,8 +671,9 @@ def hold_note(words, plain, checked, accepted, written):
         known = any(re.fullmatch(cause, kept[2]) for cause in CAUSES.get(name, []))
         hold(known or packing and int(packing[1]) not in READ_PACKINGS, "no such cause", plain.note)
         hold(("EditionOne" in kept[2]) <= (accepted[int(kept[1]) - 1][2] == 1), "EditionOne of edition 2", plain.note)
+        hold(("EditionTwo" in kept[2]) <= (accepted[int(kept[1]) - 1][2] == 2), "EditionTwo of edition 1", plain.note)
     else:
-        absent = b"surfaces absent\n" if "surfaces=absent" in words else b"table absent\n" if "params=absent" in words else None
+        absent = b"surfaces absent\n" if "surfaces=absent" in words else b"table absent\n" if {"params=absent", "names=absent"} & set(words) else None
         fault = plain.status == 7 and words[0] == "split" and "out=absent/part" in words and plain.note.endswith(b"shelf fault\n")
         hold(fault or (plain.status, plain.note, plain.output) == (4, absent, b""), "another status", plain.status, plain.note)
 
@@ -611,8 +717,8 @@ def stated(data, at, reason):
 
 
 def without_numbers(output):
-    """Lines on fields without the number of the message that stands before them."""
-    return re.sub(rb"^\d+\.(?=\d+ )", b"", output, flags=re.M)
+    """Lines on fields without the number of the message that stands before them, and its place."""
+    return re.sub(rb" at=\d+", b"", re.sub(rb"^\d+\.(?=\d+ )", b"", output, flags=re.M))
 
 
 def wanted_of(runner, words, data, refused, kept):
@@ -722,6 +828,174 @@ def hold_decimals(words, plain, dumped):
         hold(line == wanted, "another decimal", line, wanted)
 
 
+def processed(plain, data, accepted):
+    """The messages that a run has answered."""
+    count = messages_before(plain, accepted) if plain.status in (2, 3) else len(accepted)
+    return [data[at:at + octets] for at, octets, _, _ in accepted[:count]]
+
+
+def hold_coordinates(plain, data, accepted):
+    """The arrays of the messages that were answered, octet for octet, and the cause of the one that was not."""
+    answered = processed(plain, data, accepted)
+    hold(plain.output == b"".join([array for one in answered for array in map(arrays, grids(one))]), "other coordinates")
+    hold_unplaced(plain, data, accepted, answered)
+
+
+def unplaced(message):
+    """Why the places of the points of a message are not told."""
+    causes = [cause(section) for section in grids(message)] if message[7] == 2 else []
+    return "EditionOne" if message[7] == 1 else next((f"{one} field {n}" for n, one in enumerate(causes, 1) if one), None)
+
+
+def hold_unplaced(plain, data, accepted, answered):
+    hold(not any(map(unplaced, answered)), "places that are not told are written")
+    if plain.status == 3:
+        at, octets = accepted[len(answered)][:2]
+        said = " ".join(plain.note.decode().split()[3:])
+        hold(said == unplaced(data[at:at + octets]) or said.startswith(("Packing", "DecimalRange")), "another cause of places", said)
+
+
+def hold_placed(runner, words, plain, data, accepted):
+    """The lines of `dump` of the messages that were answered, with the places of the points between."""
+    answered = processed(plain, data, accepted)
+    hold_unplaced(plain, data, accepted, answered)
+    dumped = runner.run([word for word in words if word != "place=yes"], b"".join(answered))
+    sections, places, wanted = iter([section for one in answered for section in grids(one)]), [], []
+    for line in lines_of(dumped.output):
+        if " ed=" in line:
+            places = texts(next(sections))
+        elif not line.startswith("reference"):
+            point, rest = line.split(" ", 1)
+            line = f"{point} {places[int(point) - 1]} {rest}"
+        wanted.append(line)
+    hold(lines_of(plain.output) == wanted and dumped.status == 0, "other lines with places", dumped.note)
+
+
+def hold_values(runner, words, plain, data, accepted):
+    """The words of the arrays are those of the exact values, and each shape has as many points."""
+    dumped = runner.run(["dump"], b"".join(processed(plain, data, accepted)))
+    form, at = (words[1:] or ["as=f8"])[0][3:], 0
+    hold(dumped.status == 0, "values of what dump does not print", dumped.note)
+    for field in fields_of(lines_of(dumped.output)):
+        octets = words_of(field, form)
+        head = re.fullmatch(rb"\x93NUMPY\x01\0v\0\{'descr': '<(f\d)', 'fortran_order': False, 'shape': \((\d+), ?(\d*)\), \} *\n", plain.output[at:at + 128])
+        hold(head and head[1].decode() == form and int(head[2]) * int(head[3] or 1) == len(field[4]), "another header of an array", plain.output[at:at + 128])
+        hold(plain.output[at + 128:at + 128 + len(octets)] == octets, "other values in an array", words)
+        at += 128 + len(octets)
+    hold(at == len(plain.output), "arrays of no field")
+
+
+def hold_degrees(runner, words, plain, data, accepted):
+    """The points of boxes in degrees, by their places, and the cause of the message that was not cut."""
+    asked = {name: int(fractions.Fraction(value) * 1_000_000) for name, value in conditions(words)}
+    answered, wanted = processed(plain, data, accepted), []
+
+    def part(section):
+        return nearest(section, asked["lat"], asked["lon"]) if "lat" in asked else in_box(section, *(asked[name] for name in ("north", "south", "west", "east")))
+
+    def uncut(section):
+        if cause(section) == "GridKind" and (section[5] or section[12:14] != b"\0\0" or section[10]):
+            return "GridKind"
+        if section[71]:
+            return "ScanMode"
+        return "Increments" if section[38:42] != b"\0\0\0\0" or not has_steps(section) else None if part(section) else "OutsideBox"
+
+    if plain.status == 3:
+        at, octets = accepted[len(answered)][:2]
+        message, said = data[at:at + octets], plain.note.decode().split()[3:]
+        causes = [f"{uncut(section)} {n}" for n, section in enumerate(grids(message), 1) if uncut(section)] if message[7] == 2 else []
+        if said[0] in ("GridKind", "ScanMode", "Increments", "OutsideBox"):
+            hold(f"{said[0]} {said[2]}" in causes[:1], "another cause of a box", said, causes)
+    for message in answered:
+        fields = points_of(runner.run(["dump"], message).output)
+        for section, points in zip(grids(message), fields):
+            hold(uncut(section) is None, "cut what cannot be cut")
+            ni, (columns, rows) = int.from_bytes(section[30:34], "big"), part(section)
+            wanted.append([points[j * ni + i] for j in rows for i in columns])
+    hold(points_of(runner.run(["dump"], plain.output).output) == wanted, "other points in a box", words)
+
+
+def points_of(dumped):
+    """The points of each field, as `dump` prints them."""
+    fields = []
+    for line in lines_of(dumped):
+        if " ed=" in line:
+            fields.append([])
+        elif not line.startswith("reference"):
+            fields[-1].append(line.split()[1])
+    return fields
+
+
+def hold_columns(runner, words, plain, data, accepted):
+    """The lines of `list` and `keys` with columns and names."""
+    source = b"".join(data[at:at + octets] for at, octets, _, _ in accepted)
+    told = lines_of(runner.run(words[:1], source).output)
+    listed_lines, keyed = lines_of(runner.run(["list"], source).output), lines_of(runner.run(["keys"], source).output)
+    asked = dict(conditions(words))
+    columns = [one for one in (asked.get("with") or asked.get("show") or "").split(",") if one]
+    wanted = []
+    for line, whole, keys in zip(told, listed_lines, keyed):
+        at, octets = accepted[int(line.split(".")[0]) - 1][:2]
+        has = {**dict(word.split("=") for word in keys.split()[2:]), "at": str(at), "octets": str(octets)}
+        param = re.search(r" ed=2 .* param=(\S+) ", whole)
+        name = TABLE_OF_NAMES.get(param[1]) if param and "names" in asked else None
+        shown = [has.get(one, "-") for one in columns]
+        line = " ".join([line.split()[0]] + shown) if "show" in asked else " ".join([line] + [f"{one}={value}" for one, value in zip(columns, shown)])
+        wanted.append(line + (f" name={name}" if name else ""))
+    hold(lines_of(plain.output) == wanted, "other columns", words, plain.output[:200], wanted[:1])
+
+
+def is_real(*numbers):
+    """Whether this is a date and time of the years 1 to 9999."""
+    year, month, day, hour, minute, second = numbers
+    return year <= 9999 and 1 <= month <= 12 and 1 <= day <= calendar.monthrange(2000 if year % 400 == 0 else 2000 + year % 400, month)[1] and hour < 24 and minute < 60 and second < 60
+
+
+def is_on_first(words):
+    """Whether a filter or set is by keys of edition 1."""
+    return words[0] in ("filter", "set") and any(word.split("=")[0].rstrip("!") in FIRST_KEYS for word in words[1:])
+
+
+def with_first(words, message):
+    """The message of edition 1 with new values of keys."""
+    octets = bytearray(message)
+    for key, value in conditions(words):
+        if key in FIRST_KEYS:
+            at, width = FIRST_KEYS[key]
+            octets[7 + at:7 + at + width] = int(value).to_bytes(width, "big")
+    return bytes(octets)
+
+
+def hold_first(runner, words, messages, output):
+    """What `filter` and `set` make of messages by keys of edition 1."""
+    if words[0] == "set":
+        hold(output == b"".join(with_first(words, one) for one in messages), "set wrote other octets of edition 1", words)
+    else:
+        held = [one for one in messages if one[7] == 1 and all(fulfils(first_value(one, key.rstrip("!")), value) != key.endswith("!") for key, value in conditions(words))]
+        hold(output == b"".join(held), "picked other messages of edition 1", words)
+    hold(runner.run(words, output).output == output, "twice is not once", words)
+
+
+def hold_names(runner, words, source, output):
+    """The fields whose parameter has one of these names, where nothing else is asked."""
+    names = dict(conditions(words))["name"].split(",")
+    named = [line for line in lines_of(runner.run(["list"], source).output) if TABLE_OF_NAMES.get(re.search(r" param=(\S+) ", line)[1]) in names]
+    if len(words) == 3:
+        hold(len(lines_of(runner.run(["list"], output).output)) == len(named), "picked other names", words)
+    hold(runner.run(words, output).output == output, "filter of its output is another")
+
+
+def hold_dates(words, messages):
+    """The reference times of what was written with `dates=valid`."""
+    for one in messages:
+        if one[7] == 2:
+            first = with_keys([word for word in words if word != "dates=valid"], one)[16:]
+            hold(is_real(int.from_bytes(first[12:14], "big"), *first[14:19]), "no date and time", words)
+        else:
+            first = with_first(words, one)[8:]
+            hold(is_real(100 * (first[24] - 1) + first[12], *first[13:17], 0), "no date and time of edition 1", words)
+
+
 def hold_stats(plain, dumped):
     """The least and greatest are those of the column."""
     wanted, label, points, reference = [], None, [], None
@@ -757,7 +1031,7 @@ def hold_keys(plain, fields, runner, data, accepted):
         hold(line["ed"] == field["ed"], "keys names another edition")
         hold(line["ed"] == "1" or (line["points"], "5." + line["packing"]) == (field["points"], field["packing"]), "keys prints other numbers", line)
     for line in lines_of(plain.output)[:2]:
-        label, edition, *words = line.split()
+        label, edition, *words = [word for word in line.split() if not word.startswith("name=")]
         if edition != "ed=2":
             return
         message = int(label.split(".")[0])
@@ -847,11 +1121,22 @@ def hold_written(runner, words, data, plain, accepted, parts):
     source = b"".join(messages)
     if name == "make":
         hold(len(written) == 1, "made other messages")
+    if name == "crop" and len(words) in (3, 5) and words[1][0] not in "ij":
+        hold_degrees(runner, words, plain, data, accepted)
     if name == "split":
         hold(len(parts) == sum(one[3] for one in accepted[:count]) == len(written), "split wrote other files")
         if all(one[3] == 1 for one in accepted[:count]):
             hold(output == source, "the parts are not the messages")
         hold(any(map(is_opaque, messages)) or columns(runner, output) == columns(runner, source), "split changed a value")
+    if "dates=valid" in words:
+        hold_dates(words, messages)
+        words = [word for word in words if word != "dates=valid"]
+    if is_on_first(words):
+        hold_first(runner, words, messages, output)
+        return
+    if any(word.startswith("name=") for word in words):
+        hold_names(runner, words, source, output)
+        return
     if name == "filter":
         hold_picked(words, messages, output, written)
         hold(runner.run(words, output).output == output, "filter of its output is another")
@@ -952,11 +1237,19 @@ def try_case(runner, draw, words, data, way):
         hold((front.status, output, front_parts) == (0, plain.output, parts), "not the output of the messages before", words, front.status, front.note)
     if plain.status in (0, 2, 3) and name in COPIES + ("make",) and points <= MOST_POINTS:
         hold_written(runner, words, data, plain, accepted, parts)
-    if words[:1] == ["keys"] and plain.status != 1:
+    if words in (["keys"], ["keys", NAMES]) and plain.status != 1:
         hold_keys(plain, fields, runner, data, accepted)
+    if words[:1] in (["list"], ["keys"]) and words[1:] and plain.status in (0, 2):
+        hold_columns(runner, words, plain, data, accepted)
+    if words[:1] == ["coordinates"] and plain.status in (0, 2, 3):
+        hold_coordinates(plain, data, accepted)
+    if words[:1] == ["values"] and plain.status in (0, 2, 3) and len(plain.output) < 100_000:
+        hold_values(runner, words, plain, data, accepted)
+    if "place=yes" in words and plain.status in (0, 2, 3):
+        hold_placed(runner, words, plain, data, accepted)
     if words[:1] == ["stats"]:
         hold_stats(plain, runner.run(["dump"], data))
-    if words[:1] == ["dump"] and len(words) == 2 and plain.status != 1:
+    if words[:1] == ["dump"] and len(words) == 2 and words[1] != "place=yes" and plain.status != 1:
         hold_decimals(words, plain, runner.run(["dump"], data))
     hold_other_way(runner, draw, words, data, plain, way, parts, going_on)
 

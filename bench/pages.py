@@ -27,7 +27,7 @@ import time
 top = os.path.dirname(os.path.dirname(os.path.abspath(__file__)))
 # For each command arguments that are valid.
 WORDS = {
-    "check": [], "list": ["with=centre,Centre,at,octets", "names=/nonexistent/names"], "stats": [], "dump": ["decimals=2"], "values": ["as=f4"],
+    "check": [], "list": ["with=centre,Centre,at,octets", "names=/nonexistent/names"], "stats": [], "dump": ["decimals=2", "place=yes"], "values": ["as=f4"], "coordinates": [],
     "filter": ["centre=98", "name=TMP,HGT", "names=/nonexistent/names"], "set": ["centre=98", "dates=valid"],
     "split": ["out=/nonexistent/part", "editions=both"], "repack": ["to=3", "order=1"], "rescan": [], "crop": ["i0=0", "i1=0", "j0=0", "j1=0"],
     "migrate": ["params=/nonexistent/table", "surfaces=/nonexistent/surfaces", "local=ecmwf"],
@@ -35,14 +35,17 @@ WORDS = {
     "keys": ["show=centre,octets", "names=/nonexistent/names"], "help": [], "version": [],
     "make": ["seed=1", "ni=1", "nj=1", "to=3", "order=2"],
 }
+# Other arguments of a command that do not stand beside these.
+OTHER_WAYS = {"crop": [["north=1", "south=0", "west=-0.5", "east=1"], ["lat=1.25", "lon=-360"]]}
 # `refused=` and `kept=`, of the commands that have them.
 PAST = {command: ["refused=pass", "kept=copy"] for command in ("filter", "set", "split", "repack", "rescan", "crop", "migrate", "demote")}
-PAST.update({command: ["refused=pass"] for command in ("check", "list", "keys", "stats")}, dump=["refused=pass", "kept=pass"], values=["refused=pass", "kept=pass"])
+PAST.update({command: ["refused=pass"] for command in ("check", "list", "keys", "stats")}, dump=["refused=pass", "kept=pass"], values=["refused=pass", "kept=pass"],
+            coordinates=["refused=pass", "kept=pass"])
 # `profile=open`, of each command that reads messages.
 PROFILE = {command: ["profile=open"] for command in PAST}
 # The pages that say how many keys there are.
 COUNTING = ["README.md", "docs/GUIDE.md", "docs/PROFILE.md", "docs/GLOSSARY.md", "docs/GUARANTEES.md", "docs/DEFINITIONS.md"]
-NOT_PAST = {"check": "kept=pass", "list": "refused=skip", "dump": "kept=copy", "values": "kept=copy", "make": "refused=pass", "version": "refused=pass"}
+NOT_PAST = {"check": "kept=pass", "list": "refused=skip", "dump": "kept=copy", "values": "kept=copy", "coordinates": "kept=copy", "make": "refused=pass", "version": "refused=pass"}
 NOT_PROFILE = {**dict.fromkeys(PAST, "profile=stated"), "make": "profile=open", "version": "profile=open"}
 failed = []
 
@@ -219,7 +222,7 @@ def main():
     with open(f"{top}/docs/PROFILE.md", encoding="utf-8") as file:
         profile = file.read()
 
-    commands = [re.match(r"[a-z]+", plain(line)).group() for line in re.findall(r"^\.TP\n(.*)\n", section(page, "COMMANDS"), re.M)]
+    commands = list(dict.fromkeys(re.match(r"[a-z]+", plain(line)).group() for line in re.findall(r"^\.TP\n(.*)\n", section(page, "COMMANDS"), re.M)))
     hold(commands and set(commands) == set(WORDS), f"commands of the page: {commands}")
     hold(set(completed("grib ")) == set(commands), "commands of the completion")
     helped = dict.fromkeys(re.findall(r"^grib (\w+) ", printed(program, "help"), re.M))
@@ -232,11 +235,17 @@ def main():
         past = PAST.get(command, []) + PROFILE.get(command, [])
         hold(has_reading(program, command, *past, *words), f"not in the program: {command} {' '.join(past + words)}")
         if command not in ("filter", "set"):
-            names = {word.split("=")[0] + "=" for word in words + past}
+            ways = OTHER_WAYS.get(command, [])
+            names = {word.split("=")[0] + "=" for word in words + past + sum(ways, [])}
             told = {*commands, "commands", "refusals", "causes"} if command == "help" else set()
             hold(set(completed(f"grib {command} ")) == names | told, f"names of {command} in the completion")
             shown = plain(section(page, "COMMANDS") + section(page, "GOING ON AFTER REFUSALS") + section(page, "ANY GRID, PRODUCT AND PACKING"))
             hold(all(name in shown for name in names), f"names of {command} in the page")
+            for way in ways:
+                hold(has_reading(program, command, *past, *way), f"not in the program: {command} {' '.join(way)}")
+                hold(not has_reading(program, command, *words, *way[:1]), f"read by the program: {command} {' '.join(words + way[:1])}")
+                beside = {word.split("=")[0] + "=" for word in way[1:] + past}
+                hold(set(completed(f"grib {command} {way[0]} ")) == beside, f"names beside {way[0]} in the completion")
 
     hold(has_reading(program, "repack", "to=42", "profile=open"), "not in the program: repack to=42 profile=open")
     hold(not has_reading(program, "repack", "to=42"), "read by the program: repack to=42 alone")
@@ -254,6 +263,7 @@ def main():
     hold(set(completed("grib filter Centre=98 ")) == {key + "=" for key in first if key != "Centre"} | past, "keys beside one of edition 1 in the completion")
     hold(set(completed("grib set centre=98 ")) == {key + "=" for key, can in wanted.items() if can and key != "centre"} | past | {"dates="}, "keys beside one of edition 2 in the completion")
     hold(completed("grib list with=centre,subC") == ["centre,subCentre"], "columns in the completion")
+    hold(completed("grib dump place=") == ["yes"], "places in the completion")
     for key, can in both.items():
         hold(has_reading(program, "filter", f"{key}=1"), f"not in the program: filter {key}")
         hold(has_reading(program, "set", f"{key}=1") == can, f"otherwise in the program: set {key}")

@@ -62,9 +62,10 @@ def inputs(refuser):
 
 def commands():
     table = f"params={top}/params/standard.csv"
-    return [["check"], ["list"], ["keys"], ["stats"], ["dump"], ["dump", "decimals=3"], ["values"], ["values", "as=f4"], ["filter", "centre=98"], ["filter", "surface1=103", "year=2024"],
+    return [["check"], ["list"], ["keys"], ["stats"], ["dump"], ["dump", "decimals=3"], ["dump", "place=yes"], ["values"], ["values", "as=f4"], ["coordinates"], ["filter", "centre=98"], ["filter", "surface1=103", "year=2024"],
             ["split", "out=shelf/part"], ["set", "centre=7", "year=2025"], *(["repack", *target] for target in TARGETS),
-            ["repack", "to=least"], ["rescan"], ["crop", "i0=0", "i1=0", "j0=0", "j1=0"], ["migrate", table], ["demote", table, "earth=any"],
+            ["repack", "to=least"], ["rescan"], ["crop", "i0=0", "i1=0", "j0=0", "j1=0"], ["crop", "north=90", "south=-90", "west=0", "east=180"],
+            ["crop", "lat=50", "lon=10"], ["migrate", table], ["demote", table, "earth=any"],
             ["make", "seed=1", "ni=50", "nj=40", "to=2"], ["repack", "to=1"]]
 
 

@@ -37,7 +37,7 @@ HasArea job = Unit {0}
 
 -- decimals have at most 18 places
 abbrev pub HasPlaces : Job → Type 0
-HasPlaces (Dump (Some places)) = places ≤ 18
+HasPlaces (Dump (Some places) placed) = places ≤ 18
 HasPlaces job = Unit {0}
 
 -- the new values of keys that a job gives

@@ -8,7 +8,7 @@ use grib_migrate::Local;
 use grib_nearest::Format;
 use grib_params::TableMatch;
 use grib_repack::RepackTarget;
-use grib_rescan::Area;
+use grib_rescan::{Area, Bounds};
 use grib_select::{Change, Wanted};
 use grib_text::{Columns, LineForm};
 use grib1_select::{Change1, Wanted1};
@@ -48,9 +48,13 @@ pub enum Job {
     /// scaled integer or with its value as a decimal of this many places.
     Dump {
         decimals: Option<u32>,
+        /// Whether the latitude and the longitude of a point stand after its number.
+        placed: bool,
     },
     /// For each field an array of its values, each the nearest number of this format, in the form .npy of NumPy.
     Values(Format),
+    /// For each field two arrays, of the latitudes and of the longitudes of its points, in the form .npy of NumPy.
+    Coordinates,
     /// Each message whose fields all fulfil the conditions, and of another one each field that does, as a
     /// message of its own.
     Filter(Conditions),
@@ -87,6 +91,8 @@ pub enum Job {
     Rescan,
     /// Each message with a subarea of its grids alone.
     Crop(Area),
+    /// Each message with the points of its grids alone that lie within these bounds.
+    Within(Bounds),
     /// Each message of edition 1 as one of edition 2, by the tables that stand on the shelf under these names, and
     /// each message of edition 2 as it is.
     Migrate {

@@ -1,15 +1,13 @@
 -- The fields of a message that are demoted, one after another.
-use Rattle.std.proofs.Common.{◌≡◌, ℕ, zero, suc, ◌+◌, ◌-◌, ◌<◌, Option, Some, None, List, ◌++◌, refl, sym, ap, ◌∙◌, subst, arith}
-use Rattle.std.specs.Prelude.{Result, Ok, Err, MatchResult}
+use Rattle.std.proofs.Common.{◌≡◌, ℕ, zero, suc, ◌+◌, ◌-◌, ◌<◌, ◌≤◌, Option, Some, None, refl, sym, ap, ◌∙◌, subst, arith}
+use Rattle.std.specs.Prelude.{Result, Ok, Err, IfOk, MatchResult}
 use Rattle.std.specs.Result.{IsErrAnd}
 use Rattle.std.specs.Option.{option_or}
 use Rattle.grib_reasons.specs.declared.cause.Cause.{Cause}
 use Rattle.grib_command.specs.declared.answered.Answered.{Answered}
 use Rattle.grib_command.specs.declared.answered.Answered.TheVariants.{Whole, Kept, WriteFault, ShelfFault, Memory}
 use Rattle.grib_edit.specs.Unchanged.{IsKept}
-use Rattle.grib_command.specs.Command.{texts_from}
 use Rattle.grib_edit.specs.Demoting.{first_cause}
-use Rattle.grib_command.proofs.Passing.{texts_more}
 
 -- the first cause of some fields and of later ones
 none_or : (a b : Option Cause) → option_or a b ≡ None → (a ≡ None) × (b ≡ None)
@@ -44,13 +42,20 @@ module _ (cause : ℕ → Option Cause) (k field : ℕ) (is : field ≡ 1 + k) (
   cause_first n less ShelfFault kept = kept
   cause_first n less Memory kept = kept
 
--- a field more was added
-pub text_added : (text : ℕ → List ℕ) (k field : ℕ) (before now : List ℕ) → field ≡ 1 + k → before ≡ texts_from text k 1 → now ≡ before ++ text field → now ≡ texts_from text (k + 1) 1
-text_added text k field before now is so_far added =
-    added ∙ ap (λ xs. xs ++ text field) so_far ∙ ap (λ n. texts_from text k 1 ++ text n) is ∙ sym (texts_more text k 1)
+-- the last field decides, where those before it have no cause
+pub last_decides : {A : Type 0} (P : A → Type 0) (cause : ℕ → Option Cause) (k n : ℕ) (result : Result A Answered) → n ≡ 1 + k → first_cause cause k 1 ≡ None
+    → MatchResult result (λ x. (cause n ≡ None) × P x) (IsKept (cause n)) → MatchResult result (λ x. (first_cause cause n 1 ≡ None) × P x) (IsKept (first_cause cause n 1))
+last_decides P cause k n (Ok x) is before h =
+    let count : k + 1 ≡ n = omega arith in (subst (λ m. first_cause cause m 1 ≡ None) count (cause_none cause k n is before h.0), h.1)
+last_decides P cause k n (Err answered) is before h = cause_first cause k n is before n (omega arith) answered h
 
 -- what comes of the message is handed on
 pub kept_carried : {A : Type 0} (P : A → Type 0) (cause : Option Cause) (result : Result A Answered) (answered : Answered) → IsErrAnd result (λ e. e ≡ answered)
     → IsKept cause answered → MatchResult result P (IsKept cause)
 kept_carried P cause (Ok x) answered is kept = absurd is
 kept_carried P cause (Err e) answered is kept = subst (IsKept cause) (sym is) kept
+
+-- what is counted is no more than this
+pub few_counted : {E : Type 0} (result : Result ℕ E) (most l : ℕ) → l ≤ most → IfOk result (λ count. count ≡ l) → IfOk result (λ count. count ≤ most)
+few_counted (Ok count) most l few is = omega (arith, few, is)
+few_counted (Err e) most l few is = tt

@@ -9,7 +9,7 @@ use Rattle.grib2_message.specs.Fields.{field_count}
 use Rattle.grib_packing.specs.Misfits as packing
 use Rattle.grib_rescan.specs.declared.cause.GridCause.TheVariants as grid
 use Rattle.grib_reorder.specs.declared.edit.GridEdit.{GridEdit}
-use Rattle.grib_reorder.specs.declared.edit.GridEdit.TheVariants.{Rescan, Crop}
+use Rattle.grib_reorder.specs.declared.edit.GridEdit.TheVariants.{Rescan, Crop, Within}
 use Rattle.grib_reorder.specs.declared.fault.RescanFault.{RescanFault}
 use Rattle.grib_reorder.specs.declared.fault.RescanFault.TheVariants as faults
 use Rattle.grib_reorder.specs.Rescanned.{Stands, EditMisfit, OfGrid, OfColumn, TooLong, edited, misfit_among, or_later, length_misfit, edit_misfit}
@@ -54,6 +54,7 @@ answered_unedited faults.Memory = Memory
 pub Stands-prop : (edit : GridEdit) → IsProp (Stands edit)
 Stands-prop Rescan = Unit-prop
 Stands-prop (Crop area) = ×_prop le_prop le_prop
+Stands-prop (Within bounds) = Unit-prop
 
 -- ---- it is lawful
 

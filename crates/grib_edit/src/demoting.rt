@@ -1,16 +1,17 @@
 //! `demote`: each field of a message of edition 2 as a message of edition 1.
 
-ghost use Rattle.std.specs.Prelude.{◌≡◌, ◌≤◌, ◌++◌, None, MatchResult};
+ghost use Rattle.std.specs.Prelude.{◌≡◌, ◌≤◌, None, length, IfOk, MatchResult};
 ghost use Rattle.grib2_message.specs.Fields.{field_count};
 ghost use Rattle.grib_demote.specs.Demoted.{demoted, first_loss};
 ghost use Rattle.grib_stream.specs.declared.place.Place.{Place as AtPlace};
 ghost use Rattle.grib_command.specs.Answering.{AnswersByOutput};
+ghost use Rattle.grib_command.specs.Pending.{WritesTo};
 ghost use Rattle.grib_edit.specs.Unchanged.{answered_undemoted, IsKept};
 ghost use Rattle.grib_edit.specs.Demoting.{field_cause, demoted_cause, demoted_fields, demoted_given};
 
 use grib_command::{Answered, Ending, Writer, unreadable, write_counted, written};
 use grib_demote::{DemoteFault, demote};
-use grib_io::Sink;
+use grib_io::{Sink, Stop};
 use grib_params::{Table, TableMatch};
 use grib_stream::{Cause, Place};
 use grib1_sections::Message1;
@@ -96,44 +97,88 @@ fn write_demoted<T: Sink>(
         (demoted_given demoting.now.matching demoting.now.keep_local demoting.now.any_earth demoting.now.table.now place message.now)
         output.old output.new }
 {
-    match demote_fields(alloc, message, demoting) {
-        Ok(octets) => written(write_counted(output, octets.as_slice())),
+    match last_demoted(alloc, message, demoting) {
+        Ok(last) => written(write_fields(alloc, message, demoting, last.as_slice(), output)),
         Err(answered) => answered,
     }
 }
 
-/// The messages of edition 1 of all fields, one after another, or what comes of the message.
-fn demote_fields(
+/// The message of edition 1 of the last field, where each field can be demoted, or what comes of the message. One
+/// field is held at a time.
+fn last_demoted(
     alloc: Global,
     message: &ReadableMessage<'_>,
     demoting: &Demoting<'_>,
 ) -> Result<Vec<u8>, Answered>
     ensures { MatchResult result
         (λ octets. (demoted_cause demoting.now.table.now demoting.now.matching demoting.now.keep_local demoting.now.any_earth message.now ≡ None)
-        × (octets.items ≡ demoted_fields demoting.now.table.now demoting.now.matching demoting.now.keep_local message.now))
+        × (octets.items ≡ demoted demoting.now.table.now demoting.now.matching demoting.now.keep_local message.now (field_count message.now)))
         (λ answered. IsKept (demoted_cause demoting.now.table.now demoting.now.matching demoting.now.keep_local demoting.now.any_earth message.now) answered) }
 {
-    let mut octets = Vec::new(alloc);
     let count = message.fields();
-    for index in 0..count {
-        demote_field(alloc, message, index + 1, demoting, &mut octets)?;
+    for index in 0..count - 1 {
+        demote_field(alloc, message, index + 1, demoting)?;
     }
-    Ok(octets)
+    demote_field(alloc, message, count, demoting)
 }
 
-/// Adds the message of edition 1 of a field, or says what comes of the message.
+/// Writes the messages of edition 1 of all fields, one after another, of which this is the last one, and answers how
+/// many octets they have.
+fn write_fields<T: Sink>(
+    alloc: Global,
+    message: &ReadableMessage<'_>,
+    demoting: &Demoting<'_>,
+    last: &[u8],
+    output: &mut T,
+) -> Result<u64, Stop>
+    requires { last.now ≡ demoted demoting.now.table.now demoting.now.matching demoting.now.keep_local message.now (field_count message.now) }
+    ensures writes { WritesTo T.contents T.faults T.settled result output.old output.new
+        (demoted_fields demoting.now.table.now demoting.now.matching demoting.now.keep_local message.now) }
+    ensures count { IfOk result (λ written. written
+        ≡ length (demoted_fields demoting.now.table.now demoting.now.matching demoting.now.keep_local message.now)) }
+{
+    let mut written = 0u64;
+    let count = message.fields();
+    for index in 0..count - 1 {
+        written += write_field(alloc, message, index + 1, demoting, output)?;
+    }
+    Ok(written + write_counted(output, last)?)
+}
+
+/// Writes the message of edition 1 of a field that can be demoted, and answers how many octets it has.
+fn write_field<T: Sink>(
+    alloc: Global,
+    message: &ReadableMessage<'_>,
+    field: u32,
+    demoting: &Demoting<'_>,
+    output: &mut T,
+) -> Result<u64, Stop>
+    requires first { 1 ≤ field }
+    requires last { field ≤ field_count message.now }
+    ensures writes { WritesTo T.contents T.faults T.settled result output.old output.new
+        (demoted demoting.now.table.now demoting.now.matching demoting.now.keep_local message.now field) }
+    ensures count { IfOk result (λ written. written
+        ≡ length (demoted demoting.now.table.now demoting.now.matching demoting.now.keep_local message.now field)) }
+    ensures few { IfOk result (λ written. written ≤ 16777215) }
+{
+    match demote_field(alloc, message, field, demoting) {
+        Ok(octets) => write_counted(output, octets.as_slice()),
+        Err(_) => Err(Stop::Memory),
+    }
+}
+
+/// The message of edition 1 of a field, or what comes of the message.
 fn demote_field(
     alloc: Global,
     message: &ReadableMessage<'_>,
     field: u32,
     demoting: &Demoting<'_>,
-    out: &mut Vec<u8>,
-) -> Result<(), Answered>
+) -> Result<Vec<u8>, Answered>
     requires first { 1 ≤ field }
     requires last { field ≤ field_count message.now }
     ensures { MatchResult result
-        (λ _. (field_cause demoting.now.table.now demoting.now.matching demoting.now.keep_local demoting.now.any_earth message.now field ≡ None)
-        × (out.new.items ≡ out.old.items ++ demoted demoting.now.table.now demoting.now.matching demoting.now.keep_local message.now field))
+        (λ octets. (field_cause demoting.now.table.now demoting.now.matching demoting.now.keep_local demoting.now.any_earth message.now field ≡ None)
+        × (octets.items ≡ demoted demoting.now.table.now demoting.now.matching demoting.now.keep_local message.now field))
         (λ answered. IsKept (field_cause demoting.now.table.now demoting.now.matching demoting.now.keep_local demoting.now.any_earth message.now field) answered) }
 {
     match demote(
@@ -145,10 +190,7 @@ fn demote_field(
         demoting.keep_local,
         demoting.any_earth,
     ) {
-        Ok(octets) => match out.extend_from_slice(octets.as_slice()) {
-            Ok(()) => Ok(()),
-            Err(_) => Err(Answered::Memory),
-        },
+        Ok(octets) => Ok(octets),
         Err(fault) => Err(kept_by(field, fault)),
     }
 }

@@ -21,13 +21,14 @@ use Rattle.grib_items.specs.Run.{answer_of, CountsOne}
 use Rattle.grib_items.proofs.Effects.{done_then, front_whole, front_of_nothing}
 use Rattle.grib_text.specs.declared.column.LineForm.{LineForm}
 use Rattle.grib_text.specs.declared.column.Column.{Column}
-use Rattle.grib_command.specs.declared.job.Job.TheVariants.{Lines}
+use Rattle.grib_base.specs.declared.profile.Profile.{Profile}
+use Rattle.grib_command.specs.declared.job.Job.TheVariants.{Dump, Lines}
 use Rattle.grib_command.specs.Command.{Command}
 use Rattle.grib_command.specs.Outcomes.{note_of}
 use Rattle.grib_run_spec.specs.Seen.{Seen, world_of, outside_of, faults_of}
 use Rattle.grib_run_spec.specs.Stated.{IfTabled, IfAsked, deeds_of, plan_by, stated_to}
 use Rattle.grib_run_spec.specs.Serving.{NotedBehind, NotesSome, IsCounted, Gives, Reading, AtOnce, Serves, IfUnread}
-use Rattle.grib_run_spec.specs.Tasks.{Stated, Work, Reads, Makes, ReadsTables, IfHears, ends_at_once}
+use Rattle.grib_run_spec.specs.Tasks.{Stated, Work, Reads, Makes, ReadsTables, IfHears, work_under, ends_at_once}
 use Rattle.grib_engine.specs.Untabled.{outcome_untabled}
 use Rattle.grib_engine.proofs.Broken.{broken_early}
 use Rattle.grib_engine.proofs.Ended.{Reached, Answers, States, Ran, if_told}
@@ -287,3 +288,16 @@ left_open asked commands names P read (texts, stood, is) =
 pub lines_unheard : (form : LineForm) (columns : List Column) (names : Option (List ℕ)) (P : Type 0) → IfHears (Lines form columns names) P
 lines_unheard form columns None P = λ hears. absurd (false≢true hears)
 lines_unheard form columns (Some name) P = tt
+
+-- points are not printed by what is heard, and never without the input
+pub dump_unheard : (decimals : Option ℕ) (placed : Bool) (P : Type 0) → IfHears (Dump decimals placed) P
+dump_unheard None true P = λ hears. absurd (false≢true hears)
+dump_unheard None false P = λ hears. absurd (false≢true hears)
+dump_unheard (Some places) true P = λ hears. absurd (false≢true hears)
+dump_unheard (Some places) false P = λ hears. absurd (false≢true hears)
+
+pub dump_reads : (profile : Profile) (decimals : Option ℕ) (placed : Bool) (names : Option Held) (P : Type 0) → IfUnread (work_under profile (Dump decimals placed)) names P
+dump_reads profile None true names P = tt
+dump_reads profile None false names P = tt
+dump_reads profile (Some places) true names P = tt
+dump_reads profile (Some places) false names P = tt

@@ -1,10 +1,11 @@
 //! A message that is answered as a job says.
 
-ghost use Rattle.std.specs.Prelude.{◌≤◌, ◌^◌, false, option_copied};
+ghost use Rattle.std.specs.Prelude.{◌≤◌, ◌^◌, false, None, option_copied};
 ghost use Rattle.grib_base.specs.declared.profile.Profile.TheVariants.{Stated};
 ghost use Rattle.grib_command.specs.Answering.{AnswersMessage};
 ghost use Rattle.grib_command.specs.Command.{given};
-ghost use Rattle.grib_command.specs.Jobs.{IsJob};
+ghost use Rattle.grib_command.specs.Jobs.{IsJob, HasPlaces};
+ghost use Rattle.grib_command.specs.declared.job.Job.TheVariants.{Dump};
 ghost use Rattle.grib_dispatch.specs.Reading.{held_octets};
 ghost use Rattle.grib_run_spec.specs.Tasks.{IfReads, by_profile, lines_work, lining, work_of};
 
@@ -15,6 +16,7 @@ use grib_edit::{
     Rescanning, Setting, Setting1, Shrinking, Splitting,
 };
 use grib_io::{Shelf, Sink};
+use grib_placed::{PlacedDumping, PlacedValuing};
 use grib_reorder::GridEdit;
 use grib_report::{
     Checking, Dumping, Keying, Lining, Listing, Printing, PrintingValues, Summing, Valuing,
@@ -22,7 +24,7 @@ use grib_report::{
 use grib_stream::Place;
 use grib_table::Tables;
 use grib_text::{Column, LineForm};
-use grib_values::Arraying;
+use grib_values::{Arraying, Coordinating};
 use std::alloc::Global;
 
 /// Does what the job says of a message at this place; `make` says nothing of messages. After a fault or
@@ -80,28 +82,8 @@ pub fn answer_message<T: Sink, H: Shelf>(
             output,
             shelf,
         ),
-        Job::Dump { decimals: None } => {
-            answer_held(
-                &ByOutput(PrintingValues(Dumping)),
-                alloc,
-                place,
-                held,
-                output,
-                shelf,
-            )
-        }
-        Job::Dump {
-            decimals: Some(places),
-        } => {
-            let places = *places;
-            answer_held(
-                &ByOutput(Valuing { places }),
-                alloc,
-                place,
-                held,
-                output,
-                shelf,
-            )
+        Job::Dump { decimals, placed } => {
+            answer_dumped(alloc, *decimals, *placed, place, held, output, shelf)
         }
         Job::Values(format) => {
             let format = *format;
@@ -113,6 +95,9 @@ pub fn answer_message<T: Sink, H: Shelf>(
                 output,
                 shelf,
             )
+        }
+        Job::Coordinates => {
+            answer_held(&ByOutput(Coordinating), alloc, place, held, output, shelf)
         }
         Job::Filter(conditions) => {
             let conditions = conditions.as_slice();
@@ -204,6 +189,17 @@ pub fn answer_message<T: Sink, H: Shelf>(
                 shelf,
             )
         }
+        Job::Within(bounds) => {
+            let edit = GridEdit::Within(*bounds);
+            answer_held(
+                &ByOutput(Changing(OfValues(Rescanning { edit }))),
+                alloc,
+                place,
+                held,
+                output,
+                shelf,
+            )
+        }
         Job::Migrate { local, .. } => match tables {
             Some(tables) => {
                 let migrating = ByOutput(Migrating {
@@ -233,6 +229,44 @@ pub fn answer_message<T: Sink, H: Shelf>(
             None => Answered::Whole(0),
         },
         Job::Make { .. } | Job::Print(_) => Answered::Whole(0),
+    }
+}
+
+/// Prints the points of each field of a message, their values with so many decimals or their scaled integers, and where
+/// they lie if it is asked for.
+fn answer_dumped<T: Sink, H: Shelf>(
+    alloc: Global,
+    decimals: Option<u32>,
+    placed: bool,
+    place: &Place,
+    held: &Held<'_>,
+    output: &mut T,
+    shelf: &mut H,
+) -> Answered
+    requires job { HasPlaces (Dump decimals placed) }
+    requires fields { place.now.fields ≤ 2 ^ 41 }
+    ensures { IfReads (work_of (Dump decimals placed)) None (λ command.
+        AnswersMessage T.contents T.faults T.settled H.contents H.faults
+        result place.now.message (given command place.now (held_octets held.now)) command.uses_shelf
+        output.old output.new shelf.old shelf.new) }
+{
+    match (decimals, placed) {
+        (None, false) => {
+            let dumping = ByOutput(PrintingValues(Dumping));
+            answer_held(&dumping, alloc, place, held, output, shelf)
+        }
+        (None, true) => {
+            let dumping = ByOutput(PlacedDumping);
+            answer_held(&dumping, alloc, place, held, output, shelf)
+        }
+        (Some(places), false) => {
+            let valuing = ByOutput(Valuing { places });
+            answer_held(&valuing, alloc, place, held, output, shelf)
+        }
+        (Some(places), true) => {
+            let valuing = ByOutput(PlacedValuing { places });
+            answer_held(&valuing, alloc, place, held, output, shelf)
+        }
     }
 }
 

@@ -4,11 +4,13 @@ ghost use Rattle.std.specs.Prelude.{◌≡◌, ◌||◌, true, false, None};
 ghost use Rattle.grib_stream.specs.Soon.{RefusesSoon};
 ghost use Rattle.grib_items.specs.Laws.{nothing};
 ghost use Rattle.grib_command.specs.Command.{task, under};
+ghost use Rattle.grib_command.specs.Jobs.{HasPlaces};
+ghost use Rattle.grib_command.specs.declared.job.Job.TheVariants.{Dump};
 ghost use Rattle.grib_dispatch.specs.Hearing.{is_second};
 ghost use Rattle.grib_io.specs.Shelves.{Stays};
 ghost use Rattle.grib_run_spec.specs.Seen.{seen};
 ghost use Rattle.grib_run_spec.specs.Serving.{Serves, IfUnread};
-ghost use Rattle.grib_run_spec.specs.Tasks.{Reads, ReadsTables as AsksTables, by_names, by_parameters, by_profile, demoting, filtering_named, has_shelf, lines_work, lining, migrating};
+ghost use Rattle.grib_run_spec.specs.Tasks.{Reads, ReadsTables as AsksTables, by_names, by_parameters, by_profile, demoting, filtering_named, has_shelf, lines_work, lining, migrating, work_under};
 ghost use Rattle.grib_table.specs.Together as specs;
 ghost use Rattle.grib_table.specs.Together.{CountsTables};
 ghost use Rattle.grib_engine.specs.Untabled.{outcome_untabled};
@@ -23,7 +25,8 @@ use grib_io::{Shelf, Sink, Source};
 use grib_items::{Policy, answer_items};
 use grib_migrate::Local;
 use grib_params::TableMatch;
-use grib_report::{Lining, Printing};
+use grib_placed::{PlacedDumping, PlacedValuing};
+use grib_report::{Dumping, Lining, Printing, PrintingValues, Valuing};
 use grib_stream::{LIMIT, Outcome};
 use grib_table::{Tables, TablesStop, read_tables};
 use grib_text::{Column, Columns, LineForm};
@@ -53,6 +56,53 @@ pub(crate) fn serve_messages<C: Answerer, S: Source, T: Sink, N: Sink, H: Shelf>
     ) {
         Ok(totals) => close_at_end(answerer.ending(), alloc, &totals, output, notes),
         Err(outcome) => close_with_note(alloc, outcome, b"", output, notes),
+    }
+}
+
+/// Prints the points of each field of the input, their values with so many decimals or their scaled integers, and where
+/// they lie if it is asked for.
+pub(crate) fn serve_dumped<S: Source, T: Sink, N: Sink, H: Shelf>(
+    alloc: Global,
+    decimals: Option<u32>,
+    placed: bool,
+    profile: Profile,
+    policy: Policy,
+    input: &mut S,
+    output: &mut T,
+    notes: &mut N,
+    shelf: &mut H,
+) -> Outcome
+    requires { HasPlaces (Dump decimals placed) }
+    ensures serves { let see = seen S.left S.faults T.contents T.faults T.settled N.contents N.faults N.settled H.contents H.faults in
+        Serves (T.takes_memory || N.takes_memory) (work_under profile (Dump decimals placed)) policy result
+        (see input.old output.old notes.old shelf.old) (see input.new output.new notes.new shelf.new) }
+    ensures unused { shelf.new ≡ shelf.old }
+{
+    match (decimals, placed) {
+        (None, false) => {
+            let dumping = ByOutput(PrintingValues(Dumping));
+            serve_messages(
+                &dumping, alloc, profile, policy, input, output, notes, shelf,
+            )
+        }
+        (None, true) => {
+            let dumping = ByOutput(PlacedDumping);
+            serve_messages(
+                &dumping, alloc, profile, policy, input, output, notes, shelf,
+            )
+        }
+        (Some(places), false) => {
+            let valuing = ByOutput(Valuing { places });
+            serve_messages(
+                &valuing, alloc, profile, policy, input, output, notes, shelf,
+            )
+        }
+        (Some(places), true) => {
+            let valuing = ByOutput(PlacedValuing { places });
+            serve_messages(
+                &valuing, alloc, profile, policy, input, output, notes, shelf,
+            )
+        }
     }
 }
 

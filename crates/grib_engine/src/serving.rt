@@ -15,7 +15,7 @@ ghost use Rattle.grib_run_spec.specs.Tasks.{Work, Makes, IfHears, ends_at_once, 
 use crate::closing::close_with_note;
 use crate::making::{serve_made, write_noted};
 use crate::reading::{
-    serve_demoted, serve_filtered_named, serve_lines, serve_messages, serve_migrated,
+    serve_demoted, serve_dumped, serve_filtered_named, serve_lines, serve_messages, serve_migrated,
 };
 use grib_base::Profile;
 use grib_command::{ByOutput, Job};
@@ -26,9 +26,9 @@ use grib_edit::{
 use grib_io::{Shelf, Sink, Source};
 use grib_items::Policy;
 use grib_reorder::GridEdit;
-use grib_report::{Checking, Dumping, Keying, Listing, Printing, PrintingValues, Summing, Valuing};
+use grib_report::{Checking, Keying, Listing, Printing, PrintingValues, Summing};
 use grib_stream::Outcome;
-use grib_values::Arraying;
+use grib_values::{Arraying, Coordinating};
 use std::alloc::Global;
 
 /// Writes the answer to the job to `output`, and notes how the run ended. The answer is a function of the job, the
@@ -119,24 +119,26 @@ pub fn serve_under<S: Source, T: Sink, N: Sink, H: Shelf>(
                 &summing, alloc, profile, policy, input, output, notes, shelf,
             )
         }
-        Job::Dump { decimals: None } => {
-            let dumping = ByOutput(PrintingValues(Dumping));
-            serve_messages(
-                &dumping, alloc, profile, policy, input, output, notes, shelf,
-            )
-        }
-        Job::Dump {
-            decimals: Some(places),
-        } => {
-            let valuing = ByOutput(Valuing { places: *places });
-            serve_messages(
-                &valuing, alloc, profile, policy, input, output, notes, shelf,
-            )
-        }
+        Job::Dump { decimals, placed } => serve_dumped(
+            alloc, *decimals, *placed, profile, policy, input, output, notes, shelf,
+        ),
         Job::Values(format) => {
             let arraying = ByOutput(PrintingValues(Arraying { format: *format }));
             serve_messages(
                 &arraying, alloc, profile, policy, input, output, notes, shelf,
+            )
+        }
+        Job::Coordinates => {
+            let coordinating = ByOutput(Coordinating);
+            serve_messages(
+                &coordinating,
+                alloc,
+                profile,
+                policy,
+                input,
+                output,
+                notes,
+                shelf,
             )
         }
         Job::Filter(conditions) => {
@@ -209,6 +211,13 @@ pub fn serve_under<S: Source, T: Sink, N: Sink, H: Shelf>(
         }
         Job::Crop(area) => {
             let edit = GridEdit::Crop(*area);
+            let cropping = ByOutput(Changing(OfValues(Rescanning { edit })));
+            serve_messages(
+                &cropping, alloc, profile, policy, input, output, notes, shelf,
+            )
+        }
+        Job::Within(bounds) => {
+            let edit = GridEdit::Within(*bounds);
             let cropping = ByOutput(Changing(OfValues(Rescanning { edit })));
             serve_messages(
                 &cropping, alloc, profile, policy, input, output, notes, shelf,

@@ -13,6 +13,7 @@ has_line the.Keys = refl
 has_line the.Stats = refl
 has_line the.Dump = refl
 has_line the.Values = refl
+has_line the.Coordinates = refl
 has_line the.Filter = refl
 has_line the.Split = refl
 has_line the.Set = refl

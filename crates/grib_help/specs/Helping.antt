@@ -8,8 +8,8 @@ use Rattle.grib_topics.specs.Nearest.{nearest_command, nearest_key}
 use Rattle.grib_topics.specs.Shown.{shown}
 use Rattle.grib_words.specs.declared.command.Command.{Command}
 use Rattle.grib_words.specs.declared.command.Command.TheVariants as the
-use Rattle.grib_words.specs.declared.command.Command.TheVariants.{Check, Keys, Stats, Dump, Values, Filter, Split, Set, Repack, Migrate, Demote, Rescan, Crop, Make, Help, Version}
-use Rattle.grib_words.specs.Reading.{Entry, is, has_equals, name_in, value_in, is_key1, is_any_key, is_on_first, is_mixed, has_first, name_of, reads_input, own_entries, policy_entries, entries, takes, has_name, has_word, command_named, reading}
+use Rattle.grib_words.specs.declared.command.Command.TheVariants.{Check, Keys, Stats, Dump, Values, Coordinates, Filter, Split, Set, Repack, Migrate, Demote, Rescan, Crop, Make, Help, Version}
+use Rattle.grib_words.specs.Reading.{Entry, is, has_equals, name_in, value_in, is_key1, is_any_key, is_on_first, is_mixed, has_first, has_a_side, has_an_edge, name_of, reads_input, own_entries, policy_entries, entries, takes, has_name, has_word, command_named, reading}
 
 abbrev pub is_empty : List ℕ → Bool
 is_empty text = length text == 0
@@ -60,12 +60,16 @@ policy_rule Keys = codes "pass"
 policy_rule Stats = codes "pass"
 policy_rule Dump = codes "pass"
 policy_rule Values = codes "pass"
+policy_rule Coordinates = codes "pass"
 policy_rule command = codes "copy or pass"
 
 abbrev pub own_rule : List ℕ → List ℕ
 own_rule name =
     cond (is (codes "decimals") name) (codes "a whole number from 0 to 18")
     (cond (is (codes "as") name) (codes "f8 or f4")
+    (cond (is (codes "place") name) (codes "yes")
+    (cond (is (codes "north") name || is (codes "south") name || is (codes "lat") name) (codes "degrees from -90 to 90, with up to six decimals")
+    (cond (is (codes "west") name || is (codes "east") name || is (codes "lon") name) (codes "degrees from -360 to 360, with up to six decimals")
     (cond (is (codes "out") name) (codes "a name that the names of the files begin with")
     (cond (is (codes "params") name || is (codes "surfaces") name || is (codes "names") name) (codes "the name of a file")
     (cond (is (codes "to") name) (codes "0, 2 or 3")
@@ -76,7 +80,7 @@ own_rule name =
     (cond (is (codes "ni") name || is (codes "nj") name) (codes "a whole number from 1 to 4096")
     (cond (is (codes "with") name || is (codes "show") name) (codes "one or more of the keys, at and octets, with commas between them; all keys: grib help keys")
     (cond (is (codes "editions") name) (codes "both")
-    (codes "a whole number from 0 to 33554431"))))))))))))
+    (codes "a whole number from 0 to 33554431")))))))))))))))
 
 abbrev pub repack_rule : List ℕ → List ℕ
 repack_rule name = cond (is (codes "to") name) (codes "0, 2, 3, 42 or least") (own_rule name)
@@ -84,11 +88,16 @@ repack_rule name = cond (is (codes "to") name) (codes "0, 2, 3, 42 or least") (o
 abbrev pub migrate_rule : List ℕ → List ℕ
 migrate_rule name = cond (is (codes "local") name) (codes "keep or ecmwf") (own_rule name)
 
+-- of a key in `filter`; one of edition 1 is never missing
+abbrev pub condition_rule : List ℕ → List ℕ
+condition_rule name =
+    cond (is_on_first name) (codes "a value, a list as 1,2 or a range as 0..24; a value is a whole number without zeros before it")
+    (codes "a value, a list as 1,2 or a range as 0..24; a value is a whole number without zeros before it, or missing")
+
 abbrev pub filter_rule : List ℕ → List ℕ
 filter_rule name =
     cond (is (codes "name") name) (codes "one or more names with commas between them, each of 1 to 32 letters, digits, _ and -")
-    (cond (is (codes "names") name) (own_rule name)
-    (codes "a value, a list as 1,2 or a range as 0..24; a value is a whole number without zeros before it, or missing"))
+    (cond (is (codes "names") name) (own_rule name) (condition_rule name))
 
 abbrev pub set_rule : List ℕ → List ℕ
 set_rule name =
@@ -122,20 +131,20 @@ no_such kind nearest all =
 -- a word that is the name of no command
 abbrev pub no_command : List ℕ → List ℕ
 no_command word =
-    cond (is_dashed word) (codes "no words but --help and --version begin with a dash")
+    cond (is_dashed word) (codes "no arguments but --help and --version begin with a dash")
     (no_such (codes "command") (nearest_command word) (codes "all commands: grib help"))
 
 -- a word without a `=`: it begins with a dash, or is a name without a value, or else taken for the name of a file, with
 -- a line that reads the file
 abbrev pub dashed : Command → List ℕ
 dashed command =
-    concat (codes "no word behind " ∷ name_of command ∷ codes " begins with a dash; its words: grib help " ∷ name_of command ∷ [])
+    concat (codes "no argument after " ∷ name_of command ∷ codes " begins with a dash; its arguments: grib help " ∷ name_of command ∷ [])
 
 abbrev pub valueless : List ℕ → List ℕ
 valueless word = concat (word ∷ codes " wants a value; write " ∷ word ∷ codes "=VALUE" ∷ [])
 
 abbrev pub no_file : Command → List ℕ
-no_file command = concat (name_of command ∷ codes " reads no file; its words: grib help " ∷ name_of command ∷ [])
+no_file command = concat (name_of command ∷ codes " reads no file; its arguments: grib help " ∷ name_of command ∷ [])
 
 -- what stands for the words beside the command and the name of a file
 abbrev pub others : List (List ℕ) → List ℕ
@@ -166,7 +175,7 @@ by_filter command name value =
 
 abbrev pub no_name : Command → List ℕ → List ℕ
 no_name command name =
-    concat (name_of command ∷ codes " has no " ∷ name ∷ codes "=; its words: grib help " ∷ name_of command ∷ [])
+    concat (name_of command ∷ codes " has no " ∷ name ∷ codes "=; its arguments: grib help " ∷ name_of command ∷ [])
 
 -- whether a name is that of a key, and the command one that reads messages
 abbrev pub is_filtered : Command → List ℕ → Bool
@@ -188,8 +197,8 @@ unknown command name value = cond (takes_keys command) (key_reason name) (name_r
 -- name is taken and not the value; or not the name
 abbrev pub mixed : List ℕ → List ℕ
 mixed name =
-    cond (is_on_first name) (codes " is of edition 1, and a word before it of edition 2; write those of one edition")
-    (codes " is of edition 2, and a word before it of edition 1; write those of one edition")
+    cond (is_on_first name) (codes " is of edition 1, and an argument before it of edition 2; write those of one edition")
+    (codes " is of edition 2, and an argument before it of edition 1; write those of one edition")
 
 abbrev pub value_is : Command → List ℕ → List ℕ
 value_is command name = concat (name ∷ codes " is " ∷ rule_of command name ∷ [])
@@ -252,9 +261,20 @@ condition_wanted words =
     (cond (has_name (codes "names") words) (codes "name= beside names=")
     (codes "a key with its value, as centre=98; all keys: grib help keys"))
 
+-- of `crop`: a box by columns and rows, a box in degrees, or a place
+abbrev pub has_place : List (List ℕ) → Bool
+has_place words = has_name (codes "lat") words || has_name (codes "lon") words
+
+abbrev pub crop_wanted : List (List ℕ) → List ℕ
+crop_wanted words =
+    cond (has_place words) (named_or words (codes "lat" ∷ codes "lon" ∷ []) (codes "lat= and lon= alone"))
+    (cond (has_an_edge words && not (has_a_side words))
+    (named_or words (codes "north" ∷ codes "south" ∷ codes "west" ∷ codes "east" ∷ []) (codes "south= at most north="))
+    (cond (has_an_edge words) (codes "columns and rows alone, or a box in degrees alone")
+    (named_or words (codes "i0" ∷ codes "i1" ∷ codes "j0" ∷ codes "j1" ∷ []) (codes "i0= at most i1=, and j0= at most j1="))))
+
 abbrev pub wanted : Command → List (List ℕ) → List ℕ
-wanted Crop words =
-    named_or words (codes "i0" ∷ codes "i1" ∷ codes "j0" ∷ codes "j1" ∷ []) (codes "i0= at most i1=, and j0= at most j1=")
+wanted Crop words = crop_wanted words
 wanted Make words = named_or words (codes "seed" ∷ codes "ni" ∷ codes "nj" ∷ codes "to" ∷ []) (order_wanted words)
 wanted Repack words = named_or words (codes "to" ∷ []) (beside_to words)
 wanted Split words = named_or words (codes "out" ∷ []) []
@@ -275,8 +295,18 @@ wanted_line words = wanted_by (command_of words) words
 abbrev pub dump_deed : List (List ℕ) → List ℕ
 dump_deed words =
     cond (has_name (codes "decimals") words)
-    (codes "writes for each field its list line, R, E and D, and the value of each point with so many decimals")
-    (codes "writes for each field its list line, R, E and D, and the scaled integer of each point")
+    (cond (has_name (codes "place") words)
+    (codes "writes for each field its list line, R, E and D, and the place and the value of each point, the value with so many decimals")
+    (codes "writes for each field its list line, R, E and D, and the value of each point with so many decimals"))
+    (cond (has_name (codes "place") words)
+    (codes "writes for each field its list line, R, E and D, and the place and the scaled integer of each point")
+    (codes "writes for each field its list line, R, E and D, and the scaled integer of each point"))
+
+abbrev pub crop_deed : List (List ℕ) → List ℕ
+crop_deed words =
+    cond (has_name (codes "lat") words) (codes "writes of each message the grid point nearest to this place")
+    (cond (has_name (codes "north") words) (codes "writes of each message the grid points in this box")
+    (codes "writes of each message these grid columns and rows"))
 
 abbrev pub repack_deed : List (List ℕ) → List ℕ
 repack_deed words =
@@ -315,8 +345,8 @@ filter_deed words =
 abbrev pub split_deed : List (List ℕ) → List ℕ
 split_deed words =
     cond (has_name (codes "editions") words)
-    (codes "writes the n-th field, of either edition, to the file of this name with .n behind it")
-    (codes "writes the n-th field to the file of this name with .n behind it")
+    (codes "writes the n-th field, of either edition, to the file of this name with .n after it")
+    (codes "writes the n-th field to the file of this name with .n after it")
 
 abbrev pub set_deed : List (List ℕ) → List ℕ
 set_deed words =
@@ -333,6 +363,7 @@ deed_of Keys words = keys_deed words
 deed_of Stats words = codes "writes for each field how many points it has, and its smallest and largest scaled integer"
 deed_of Dump words = dump_deed words
 deed_of Values words = codes "writes for each field its values as an array of NumPy"
+deed_of Coordinates words = codes "writes for each field the latitudes and the longitudes of its points as arrays of NumPy"
 deed_of Filter words = filter_deed words
 deed_of Split words = split_deed words
 deed_of Set words = set_deed words
@@ -340,7 +371,7 @@ deed_of Repack words = repack_deed words
 deed_of Migrate words = codes "writes each message of edition 1 as one of edition 2, by this table"
 deed_of Demote words = codes "writes each field of edition 2 as a message of edition 1, by this table"
 deed_of Rescan words = codes "writes each message with its points from west to east and from north to south"
-deed_of Crop words = codes "writes of each message these grid columns and rows"
+deed_of Crop words = crop_deed words
 deed_of Make words = codes "writes a synthetic message, made from the seed"
 deed_of Help words = codes "writes a line on each command"
 deed_of Version words = codes "writes the version of the program"
@@ -382,7 +413,7 @@ judged_by (Err place) words = judged_at place words
 
 -- what a command line of these words would do, or the word at which it is at fault, and why
 abbrev pub judged : List (List ℕ) → List ℕ
-judged words = cond (is_on_words words) (done_line (codes "tells of the words after help") words) (judged_by (reading words) words)
+judged words = cond (is_on_words words) (done_line (codes "tells of the arguments after help") words) (judged_by (reading words) words)
 
 -- the text on a name that stands alone, empty where there is none
 abbrev pub told_of_name : List (List ℕ) → List ℕ

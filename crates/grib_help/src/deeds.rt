@@ -17,6 +17,8 @@ pub(crate) fn deed_of(command: Command, words: &[String]) -> &'static str
             "writes for each field how many points it has, and its smallest and largest scaled integer",
         Command::Dump => dump_deed(words),
         Command::Values => "writes for each field its values as an array of NumPy",
+        Command::Coordinates =>
+            "writes for each field the latitudes and the longitudes of its points as arrays of NumPy",
         Command::Filter => filter_deed(words),
         Command::Split => split_deed(words),
         Command::Set => set_deed(words),
@@ -26,7 +28,7 @@ pub(crate) fn deed_of(command: Command, words: &[String]) -> &'static str
             "writes each field of edition 2 as a message of edition 1, by this table",
         Command::Rescan =>
             "writes each message with its points from west to east and from north to south",
-        Command::Crop => "writes of each message these grid columns and rows",
+        Command::Crop => crop_deed(words),
         Command::Make => "writes a synthetic message, made from the seed",
         Command::Help => "writes a line on each command",
         Command::Version => "writes the version of the program",
@@ -87,9 +89,9 @@ fn split_deed(words: &[String]) -> &'static str
     ensures { result.now ≡ helping.split_deed (map string_bytes words.now) }
 {
     if has_name(words, "editions") {
-        "writes the n-th field, of either edition, to the file of this name with .n behind it"
+        "writes the n-th field, of either edition, to the file of this name with .n after it"
     } else {
-        "writes the n-th field to the file of this name with .n behind it"
+        "writes the n-th field to the file of this name with .n after it"
     }
 }
 
@@ -108,10 +110,30 @@ fn set_deed(words: &[String]) -> &'static str
 fn dump_deed(words: &[String]) -> &'static str
     ensures { result.now ≡ helping.dump_deed (map string_bytes words.now) }
 {
+    let is_placed = has_name(words, "place");
     if has_name(words, "decimals") {
-        "writes for each field its list line, R, E and D, and the value of each point with so many decimals"
+        if is_placed {
+            "writes for each field its list line, R, E and D, and the place and the value of each point, the value with so many decimals"
+        } else {
+            "writes for each field its list line, R, E and D, and the value of each point with so many decimals"
+        }
+    } else if is_placed {
+        "writes for each field its list line, R, E and D, and the place and the scaled integer of each point"
     } else {
         "writes for each field its list line, R, E and D, and the scaled integer of each point"
+    }
+}
+
+/// What `crop` with these arguments would do.
+fn crop_deed(words: &[String]) -> &'static str
+    ensures { result.now ≡ helping.crop_deed (map string_bytes words.now) }
+{
+    if has_name(words, "lat") {
+        "writes of each message the grid point nearest to this place"
+    } else if has_name(words, "north") {
+        "writes of each message the grid points in this box"
+    } else {
+        "writes of each message these grid columns and rows"
     }
 }
 

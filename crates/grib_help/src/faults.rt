@@ -1,6 +1,7 @@
 //! Why an argument is not read.
 
 ghost use Rattle.std.specs.Prelude.{◌≡◌, ◌<◌, ◌==◌, get_or, length, map, string_bytes, IfOk};
+ghost use Rattle.grib_words.specs.Reading.{crop_entries};
 ghost use Rattle.grib_help.specs.Helping as helping;
 
 use crate::telling::{command_of, joined};
@@ -44,7 +45,10 @@ fn no_command(alloc: Global, word: &str) -> Result<String, AllocError>
     ensures { IfOk result (λ text. string_bytes text ≡ helping.no_command word.now) }
 {
     if is_dashed(word) {
-        return String::from_str(alloc, "no words but --help and --version begin with a dash");
+        return String::from_str(
+            alloc,
+            "no arguments but --help and --version begin with a dash",
+        );
     }
     let nearest = nearest_command(alloc, word)?;
     no_such(alloc, "command", nearest, "all commands: grib help")
@@ -88,9 +92,9 @@ fn bare_reason(
     if is_dashed(word) {
         return joined(
             alloc,
-            "no word behind ",
+            "no argument after ",
             told,
-            " begins with a dash; its words: grib help ",
+            " begins with a dash; its arguments: grib help ",
             told,
             "",
             "",
@@ -111,7 +115,7 @@ fn bare_reason(
         return joined(
             alloc,
             told,
-            " reads no file; its words: grib help ",
+            " reads no file; its arguments: grib help ",
             told,
             "",
             "",
@@ -169,9 +173,9 @@ fn beside(name: &str, earlier: &[String]) -> &'static str
     if !is_mixed(earlier, name) {
         "= stands before; each name stands once"
     } else if is_on_first(name) {
-        " is of edition 1, and a word before it of edition 2; write those of one edition"
+        " is of edition 1, and an argument before it of edition 2; write those of one edition"
     } else {
-        " is of edition 2, and a word before it of edition 1; write those of one edition"
+        " is of edition 2, and an argument before it of edition 1; write those of one edition"
     }
 }
 
@@ -228,7 +232,7 @@ fn name_reason(
         told,
         " has no ",
         name,
-        "=; its words: grib help ",
+        "=; its arguments: grib help ",
         told,
         "",
     )
@@ -266,7 +270,7 @@ fn knows_own(command: Command, name: &str) -> bool
     ensures { result ≡ helping.knows_own command name.now }
 {
     match command {
-        Command::Dump => name == "decimals",
+        Command::Dump => matches!(name, "decimals" | "place"),
         Command::Values => name == "as",
         Command::List => matches!(name, "with" | "names"),
         Command::Keys => matches!(name, "show" | "names"),
@@ -276,11 +280,25 @@ fn knows_own(command: Command, name: &str) -> bool
         Command::Repack => matches!(name, "to" | "order"),
         Command::Migrate => matches!(name, "params" | "surfaces" | "local"),
         Command::Demote => matches!(name, "params" | "local" | "earth" | "tables"),
-        Command::Crop => matches!(name, "i0" | "i1" | "j0" | "j1"),
+        Command::Crop => knows_part(name),
         Command::Make => matches!(name, "seed" | "ni" | "nj" | "to" | "order"),
-        Command::Check | Command::Stats | Command::Rescan | Command::Help | Command::Version =>
-            false,
+        Command::Check
+        | Command::Stats
+        | Command::Coordinates
+        | Command::Rescan
+        | Command::Help
+        | Command::Version => false,
     }
+}
+
+/// Whether a name is that of a part of what `crop` is asked for.
+fn knows_part(name: &str) -> bool
+    ensures { result ≡ helping.has_entry crop_entries name.now }
+{
+    matches!(
+        name,
+        "i0" | "i1" | "j0" | "j1" | "north" | "south" | "lat" | "west" | "east" | "lon"
+    )
 }
 
 /// What the value of a name is.
@@ -317,8 +335,18 @@ fn filter_rule(name: &str) -> &'static str
         "name" =>
             "one or more names with commas between them, each of 1 to 32 letters, digits, _ and -",
         "names" => own_rule(name),
-        _ =>
-            "a value, a list as 1,2 or a range as 0..24; a value is a whole number without zeros before it, or missing",
+        _ => condition_rule(name),
+    }
+}
+
+/// What the value of a key is in `filter`. A key of edition 1 is never missing.
+fn condition_rule(name: &str) -> &'static str
+    ensures { result.now ≡ helping.condition_rule name.now }
+{
+    if is_on_first(name) {
+        "a value, a list as 1,2 or a range as 0..24; a value is a whole number without zeros before it"
+    } else {
+        "a value, a list as 1,2 or a range as 0..24; a value is a whole number without zeros before it, or missing"
     }
 }
 
@@ -345,7 +373,8 @@ fn policy_rule(command: Command) -> &'static str
         | Command::Keys
         | Command::Stats
         | Command::Dump
-        | Command::Values => "pass",
+        | Command::Values
+        | Command::Coordinates => "pass",
         _ => "copy or pass",
     }
 }
@@ -377,6 +406,9 @@ fn own_rule(name: &str) -> &'static str
     match name {
         "decimals" => "a whole number from 0 to 18",
         "as" => "f8 or f4",
+        "place" => "yes",
+        "north" | "south" | "lat" => "degrees from -90 to 90, with up to six decimals",
+        "west" | "east" | "lon" => "degrees from -360 to 360, with up to six decimals",
         "out" => "a name that the names of the files begin with",
         "params" | "surfaces" | "names" => "the name of a file",
         "to" => "0, 2 or 3",

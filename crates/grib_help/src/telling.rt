@@ -78,7 +78,7 @@ fn judged(alloc: Global, words: &[String]) -> Result<String, AllocError>
     ensures { IfOk result (λ text. string_bytes text ≡ helping.judged (map string_bytes words.now)) }
 {
     if is_on_words(words) {
-        return done_line(alloc, words, "tells of the words after help");
+        return done_line(alloc, words, "tells of the arguments after help");
     }
     match read_words(words) {
         Ok(command) => done_line(alloc, words, deed_of(command, words)),

@@ -4,7 +4,7 @@ ghost use Rattle.std.specs.Prelude.{◌≡◌, map, string_bytes, IfOk};
 ghost use Rattle.grib_help.specs.Helping as helping;
 
 use crate::telling::joined;
-use grib_words::{Command, has_name, has_word};
+use grib_words::{Command, has_a_side, has_an_edge, has_name, has_word};
 use std::alloc::{AllocError, Global};
 
 /// What a command with these arguments wants beside them.
@@ -16,12 +16,7 @@ pub(crate) fn wanted(
     ensures { IfOk result (λ text. string_bytes text ≡ helping.wanted command (map string_bytes words.now)) }
 {
     match command {
-        Command::Crop => named_or(
-            alloc,
-            words,
-            &["i0", "i1", "j0", "j1"],
-            "i0= at most i1=, and j0= at most j1=",
-        ),
+        Command::Crop => crop_wanted(alloc, words),
         Command::Make => named_or(
             alloc,
             words,
@@ -37,6 +32,40 @@ pub(crate) fn wanted(
             "a key with its value, as centre=98; all keys: grib help keys",
         ),
     }
+}
+
+/// What `crop` wants: a box by columns and rows, a box in degrees, or a place.
+fn crop_wanted(alloc: Global, words: &[String]) -> Result<String, AllocError>
+    ensures { IfOk result (λ text. string_bytes text ≡ helping.crop_wanted (map string_bytes words.now)) }
+{
+    let (sides, edges) = (has_a_side(words), has_an_edge(words));
+    if has_place(words) {
+        return named_or(alloc, words, &["lat", "lon"], "lat= and lon= alone");
+    }
+    if edges && !sides {
+        return named_or(
+            alloc,
+            words,
+            &["north", "south", "west", "east"],
+            "south= at most north=",
+        );
+    }
+    if edges {
+        return String::from_str(alloc, "columns and rows alone, or a box in degrees alone");
+    }
+    named_or(
+        alloc,
+        words,
+        &["i0", "i1", "j0", "j1"],
+        "i0= at most i1=, and j0= at most j1=",
+    )
+}
+
+/// Whether a part of a place is among the arguments.
+fn has_place(words: &[String]) -> bool
+    ensures { result ≡ helping.has_place (map string_bytes words.now) }
+{
+    has_name(words, "lat") || has_name(words, "lon")
 }
 
 /// What `filter` wants: the table of names and those that are asked for stand together; else a key.

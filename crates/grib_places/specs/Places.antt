@@ -27,9 +27,9 @@ parts_of count = max (count - 1) 1
 abbrev pub stepped : ℤ → ℤ → ℕ → ℕ → Degrees
 stepped first way count k = record { number = (first *ℤ pos (parts_of count)) +ℤ (way *ℤ pos k); parts = parts_of count }
 
--- the way to the east from one longitude to another, less than 360 degrees
+-- the way to the east from one longitude to another, modulo 360 degrees; a whole turn where they are one meridian
 abbrev pub eastward : ℕ → ℕ → ℕ
-eastward from to = (to + (360000000 - from % 360000000)) % 360000000
+eastward from to = 360000000 - (from + (360000000 - to % 360000000)) % 360000000
 
 -- the way from the first longitude to the last, to the west where points of a row go there
 abbrev pub row_way : Bool → ℕ → ℕ → ℤ

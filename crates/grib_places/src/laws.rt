@@ -53,10 +53,13 @@ pub fn worked_orders()
         ≡ 0x4026_0000_0000_0000 ∷ 0x4024_0000_0000_0000 ∷ 0x4024_0000_0000_0000 ∷ 0x4026_0000_0000_0000 ∷ [] }
 {}
 
-/// A row from 359.5 degrees eastward to 0.5 degrees, and one from there westward; columns with thirds of a degree.
+/// A row from 359.5 degrees eastward to 0.5 degrees, one round the earth to where it begins, and one from 0.5 degrees
+/// westward; columns with thirds of a degree.
 pub fn worked_places()
     ensures eastward { words_of Longitude (grid 3 3 1 north before_greenwich north half 0) 3
         ≡ 0x4076_7800_0000_0000 ∷ 0x4076_8000_0000_0000 ∷ 0x4076_8800_0000_0000 ∷ [] }
+    ensures round { words_of Longitude (grid 3 3 1 north (few 0) north (few 0) 0) 3
+        ≡ 0 ∷ 0x4066_8000_0000_0000 ∷ 0x4076_8000_0000_0000 ∷ [] }
     ensures westward { words_of Longitude (grid 3 3 1 north half north before_greenwich 0x80) 3
         ≡ 0x3fe0_0000_0000_0000 ∷ 0 ∷ 0xbfe0_0000_0000_0000 ∷ [] }
     ensures thirds { words_of Latitude (grid 4 1 4 one west (few 0) west 0) 4

@@ -145,13 +145,13 @@ fn row_way(westward: bool, first: u32, last: u32) -> i64
     }
 }
 
-/// The way to the east from one longitude to another, less than a turn.
+/// The way to the east from one longitude to another; a whole turn where they are one meridian.
 fn eastward(from: u32, to: u32) -> u32
     ensures value { result ≡ definitions.eastward from to }
-    ensures small { result < 360000000 }
+    ensures small { result ≤ 360000000 }
 {
-    let sum = u64::from(to) + u64::from(TURN - from % TURN);
-    (sum % u64::from(TURN)) as u32
+    let back = u64::from(from) + u64::from(TURN - to % TURN);
+    TURN - (back % u64::from(TURN)) as u32
 }
 
 /// The number with sign of the four octets from `first` on.

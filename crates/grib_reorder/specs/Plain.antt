@@ -4,13 +4,14 @@ use Rattle.grib_bits.specs.Octets.{octets}
 use Rattle.grib_packing.specs.declared.column.Column.{Column}
 use Rattle.grib_rescan.specs.Source.{number_points, NumbersStand}
 use Rattle.grib_reorder.specs.declared.edit.GridEdit.{GridEdit}
-use Rattle.grib_reorder.specs.declared.edit.GridEdit.TheVariants.{Rescan, Crop}
+use Rattle.grib_reorder.specs.declared.edit.GridEdit.TheVariants.{Rescan, Crop, Within}
 use Rattle.grib_reorder.specs.declared.plain.PlainField.{PlainField}
 
 -- points of a column are consecutive (bit 3 of the scanning octet), and adjacent columns go the same way (bit 4)
 abbrev pub takes_numbers : GridEdit → List ℕ → Bool
 takes_numbers Rescan s = octets s 72 72 / 16 % 4 == 2
 takes_numbers (Crop area) s = true
+takes_numbers (Within bounds) s = true
 
 -- its column
 abbrev pub plain_column : PlainField → Column

@@ -19,29 +19,34 @@ use Rattle.grib_rescan.specs.declared.cause.GridCause.{GridCause}
 use Rattle.grib_rescan.specs.Scanning.{scanning_of}
 use Rattle.grib_rescan.specs.Points.{rescanned_column, cropped_column}
 use Rattle.grib_rescan.specs.Sections.{rescanned_section, cropped_section}
-use Rattle.grib_rescan.specs.Causes.{rescan_cause_of, crop_cause_of}
+use Rattle.grib_rescan.specs.Bounds.{area_within}
+use Rattle.grib_rescan.specs.Causes.{rescan_cause_of, crop_cause_of, within_cause_of}
 use Rattle.grib_reorder.specs.declared.edit.GridEdit.{GridEdit}
-use Rattle.grib_reorder.specs.declared.edit.GridEdit.TheVariants.{Rescan, Crop}
+use Rattle.grib_reorder.specs.declared.edit.GridEdit.TheVariants.{Rescan, Crop, Within}
 
 -- why a grid with this Section 3 is not edited
 abbrev pub cause_of : GridEdit → List ℕ → Option GridCause
 cause_of Rescan s = rescan_cause_of s
 cause_of (Crop area) s = crop_cause_of area s
+cause_of (Within bounds) s = within_cause_of bounds s
 
 -- what its Section 3 becomes
 abbrev pub section_of : GridEdit → List ℕ → List ℕ
 section_of Rescan s = rescanned_section s
 section_of (Crop area) s = cropped_section area s
+section_of (Within bounds) s = cropped_section (area_within bounds s) s
 
 -- what a column of the grid becomes
 abbrev pub new_column : GridEdit → List ℕ → Column → Column
 new_column Rescan s column = rescanned_column (scanning_of (octets s 72 72)) (octets s 31 34) (octets s 35 38) column
 new_column (Crop area) s column = cropped_column area (octets s 31 34) (octets s 35 38) column
+new_column (Within bounds) s column = cropped_column (area_within bounds s) (octets s 31 34) (octets s 35 38) column
 
 -- the first column and row of a box are at most its last
 abbrev pub Stands : GridEdit → Type 0
 Stands Rescan = Unit {0}
 Stands (Crop area) = (area.i0 ≤ area.i1) × (area.j0 ≤ area.j1)
+Stands (Within bounds) = Unit {0}
 
 -- CCSDS packing has the blocks of octets 23 to 25 of Section 5. Where numbers have no bits, octets 22 to 25 are not read,
 -- whatever they say: blocks of 32 values are written, with a reference each 128 blocks.

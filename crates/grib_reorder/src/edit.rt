@@ -4,6 +4,8 @@ ghost use Rattle.std.specs.Prelude.{◌≡◌, ◌++◌, length, true, None, IfO
 ghost use Rattle.grib_base.specs.Rows.{first_fault};
 ghost use Rattle.grib2_grids.specs.Grid.{grid_rows, grid_points};
 ghost use Rattle.grib_rescan.specs.Sections.{HasTemplate};
+ghost use Rattle.grib_rescan.specs.Bounds.{area_within};
+ghost use Rattle.grib_rescan.specs.Causes.{HasWithin};
 ghost use Rattle.grib_reorder.specs.Rescanned.{Stands, cause_of, section_of, new_column};
 ghost use Rattle.grib_reorder.specs.Plain.{takes_numbers, plain_column, PlainStands};
 ghost use Rattle.grib_reorder.specs.Lengths.{as_long};
@@ -13,8 +15,8 @@ use grib_bits::{u8_at, u32_at};
 use grib_packing::Column;
 use grib_rescan::laws::what_has_no_cause;
 use grib_rescan::{
-    Area, GridCause, Scanning, crop_cause, crop_column, crop_points, crop_section, rescan_cause,
-    rescan_column, rescan_columns, rescan_section,
+    Area, Bounds, GridCause, Scanning, area_in, crop_cause, crop_column, crop_points, crop_section,
+    rescan_cause, rescan_column, rescan_columns, rescan_section, within_cause,
 };
 use grib2_message::NewGrid;
 use std::alloc::{AllocError, Global};
@@ -26,6 +28,8 @@ pub enum GridEdit {
     Rescan,
     /// A subarea of it.
     Crop(Area),
+    /// What of it lies within bounds in degrees.
+    Within(Bounds),
 }
 
 impl GridEdit {
@@ -37,6 +41,26 @@ impl GridEdit {
         match self {
             GridEdit::Rescan => rescan_cause(section3),
             GridEdit::Crop(area) => crop_cause(section3, area),
+            GridEdit::Within(bounds) => within_cause(section3, bounds),
+        }
+    }
+
+    /// What this Section 3 becomes.
+    ///
+    /// # Errors
+    ///
+    /// There is no memory for it.
+    fn section(&self, alloc: Global, section3: &[u8]) -> Result<Vec<u8>, AllocError>
+        requires stands { Stands self.now }
+        requires accepted { first_fault (grid_rows section3.now) ≡ None }
+        requires uncaused { cause_of self.now section3.now ≡ None }
+        ensures { IfOk result (λ new. new.items ≡ section_of self.now section3.now) }
+    {
+        what_has_no_cause();
+        match self {
+            GridEdit::Rescan => rescan_section(alloc, section3),
+            GridEdit::Crop(area) => crop_section(alloc, section3, area),
+            GridEdit::Within(bounds) => crop_section(alloc, section3, &found(section3, bounds)),
         }
     }
 
@@ -64,6 +88,9 @@ impl GridEdit {
                 rescan_column(alloc, column, Scanning::of(u8_at(section3, 72)), ni, nj)
             }
             GridEdit::Crop(area) => crop_column(alloc, &column, ni, nj, area),
+            GridEdit::Within(bounds) => {
+                crop_column(alloc, &column, ni, nj, &found(section3, bounds))
+            }
         }
     }
 
@@ -78,7 +105,7 @@ impl GridEdit {
         what_has_no_cause();
         match self {
             GridEdit::Rescan => u8_at(section3, 72) / 16 % 4 == 2,
-            GridEdit::Crop(_) => true,
+            GridEdit::Crop(_) | GridEdit::Within(_) => true,
         }
     }
 
@@ -108,9 +135,23 @@ impl GridEdit {
                 rescan_columns(alloc, &field.numbers, scanning, ni, nj)?
             }
             GridEdit::Crop(area) => crop_points(alloc, &field.numbers, ni, nj, area)?,
+            GridEdit::Within(bounds) => {
+                crop_points(alloc, &field.numbers, ni, nj, &found(section3, bounds))?
+            }
         };
         Ok(field.simple.column(points))
     }
+}
+
+/// The points within bounds of a grid with this Section 3, out of which they can be cut.
+fn found(section3: &[u8], bounds: &Bounds) -> Area
+    requires { HasWithin bounds.now section3.now }
+    ensures { result ≡ area_within bounds.now section3.now }
+{
+    let Some(area) = area_in(section3, bounds) else {
+        unreachable!();
+    };
+    area
 }
 
 impl NewGrid for GridEdit {
@@ -121,10 +162,7 @@ impl NewGrid for GridEdit {
     ghost as_long = { as_long };
 
     fn put(&self, alloc: Global, section: &[u8], out: &mut Vec<u8>) -> Result<(), AllocError> {
-        let new = match self {
-            GridEdit::Rescan => rescan_section(alloc, section)?,
-            GridEdit::Crop(area) => crop_section(alloc, section, area)?,
-        };
+        let new = self.section(alloc, section)?;
         out.extend_from_slice(&new)
     }
 }

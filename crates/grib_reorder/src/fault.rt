@@ -21,7 +21,7 @@ pub enum RescanFault {
     /// The scanning mode of this field is not one that can be read, or is not 0 where a subarea is cut out.
     #[error("field {field}: the scanning mode")]
     ScanMode { field: u32 },
-    /// The subarea does not lie in the grid of this field.
+    /// The subarea does not lie in the grid of this field, or the points within the bounds are none or no box of it.
     #[error("field {field}: the box is not in the grid")]
     OutsideBox { field: u32 },
     /// The first and the last point of this field are not those that the increments give.

@@ -1,6 +1,6 @@
 //! Laws over the definitions.
 
-ghost use Rattle.std.specs.Prelude.{◌≡◌, ◌≢◌, ℕ, ◌+◌, ◌*◌, ◌<◌, ◌≤◌, List};
+ghost use Rattle.std.specs.Prelude.{◌≡◌, ◌≢◌, ℕ, ◌+◌, ◌*◌, ◌%◌, ◌<◌, ◌≤◌, List};
 ghost use Rattle.grib_bits.specs.Octets.{octets};
 ghost use Rattle.grib_base.specs.declared.profile.Profile.{Profile};
 ghost use Rattle.grib2_message.specs.Fields.{field_count, part_octets, column_of};
@@ -8,6 +8,8 @@ ghost use Rattle.grib2_message.specs.Message.{IsMessageUnder};
 ghost use Rattle.grib_rescan.specs.Scanning.{scanning_of, place};
 ghost use Rattle.grib_rescan.specs.Points.{point, width, height};
 ghost use Rattle.grib_rescan.specs.declared.points.Area.{Area as Rectangle};
+ghost use Rattle.grib_rescan.specs.declared.bounds.Bounds.{Bounds as Limits};
+ghost use Rattle.grib_rescan.specs.Bounds.{area_within};
 ghost use Rattle.grib_reorder.specs.declared.edit.GridEdit.{GridEdit as Edit};
 ghost use Rattle.grib_reorder.specs.declared.edit.GridEdit.TheVariants as edits;
 ghost use Rattle.grib_reorder.specs.Rescanned.{section_of, edited_column, edited, MayBeEdited};
@@ -70,14 +72,15 @@ pub fn what_is_rescanned_keeps_each_value()
     what_is_edited_is_accepted();
 }
 
-/// The entry in column i and row j of a subarea is that in column i + i0 and row j + j0 of the field, and R, E and
-/// D are the same.
+/// The entry in column i and row j of a subarea is that in column i + i0 and row j + j0 of the field, where the first
+/// column follows the last, and R, E and D are the same.
 pub fn what_is_cropped_keeps_each_value()
     ensures entries { (profile : Profile) (area : Rectangle) (message : List ℕ) → MayBeEdited profile (edits.Crop area) message
         → (i : ℕ) → 1 ≤ i → i ≤ field_count message
         → (x y : ℕ) → x < width area → y < height area
         → point (column_of (edited (edits.Crop area) message) i).points (y * width area + x)
-        ≡ point (column_of message i).points ((area.j0 + y) * octets (part_octets message i 3) 31 34 + (area.i0 + x)) }
+        ≡ point (column_of message i).points
+        ((area.j0 + y) * octets (part_octets message i 3) 31 34 + (area.i0 + x) % octets (part_octets message i 3) 31 34) }
     ensures reference { (profile : Profile) (area : Rectangle) (message : List ℕ) → MayBeEdited profile (edits.Crop area) message
         → (i : ℕ) → 1 ≤ i → i ≤ field_count message
         → (column_of (edited (edits.Crop area) message) i).reference ≡ (column_of message i).reference }
@@ -87,6 +90,29 @@ pub fn what_is_cropped_keeps_each_value()
     ensures decimal_scale { (profile : Profile) (area : Rectangle) (message : List ℕ) → MayBeEdited profile (edits.Crop area) message
         → (i : ℕ) → 1 ≤ i → i ≤ field_count message
         → (column_of (edited (edits.Crop area) message) i).d ≡ (column_of message i).d }
+{
+    what_is_edited_is_accepted();
+}
+
+/// So is each entry of what lies within bounds, whose subarea is that of the grid of the field.
+pub fn what_lies_within_keeps_each_value()
+    ensures entries { (profile : Profile) (bounds : Limits) (message : List ℕ) → MayBeEdited profile (edits.Within bounds) message
+        → (i : ℕ) → 1 ≤ i → i ≤ field_count message
+        → let s = part_octets message i 3 in
+        let area = area_within bounds s in
+        let ni = octets s 31 34 in
+        (x y : ℕ) → x < width area → y < height area
+        → point (column_of (edited (edits.Within bounds) message) i).points (y * width area + x)
+        ≡ point (column_of message i).points ((area.j0 + y) * ni + (area.i0 + x) % ni) }
+    ensures reference { (profile : Profile) (bounds : Limits) (message : List ℕ) → MayBeEdited profile (edits.Within bounds) message
+        → (i : ℕ) → 1 ≤ i → i ≤ field_count message
+        → (column_of (edited (edits.Within bounds) message) i).reference ≡ (column_of message i).reference }
+    ensures binary_scale { (profile : Profile) (bounds : Limits) (message : List ℕ) → MayBeEdited profile (edits.Within bounds) message
+        → (i : ℕ) → 1 ≤ i → i ≤ field_count message
+        → (column_of (edited (edits.Within bounds) message) i).e ≡ (column_of message i).e }
+    ensures decimal_scale { (profile : Profile) (bounds : Limits) (message : List ℕ) → MayBeEdited profile (edits.Within bounds) message
+        → (i : ℕ) → 1 ≤ i → i ≤ field_count message
+        → (column_of (edited (edits.Within bounds) message) i).d ≡ (column_of message i).d }
 {
     what_is_edited_is_accepted();
 }

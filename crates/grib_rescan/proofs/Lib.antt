@@ -5,6 +5,9 @@ mod Columns
 pub mod Added
 pub mod Rows
 mod Placed
+pub mod Members
+pub mod Closest
+pub mod Within
 mod Corners
 mod Octets
 pub mod Kept

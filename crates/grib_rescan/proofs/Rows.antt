@@ -9,7 +9,7 @@ use Rattle.grib_packing.specs.declared.column.Point.{Point}
 use Rattle.grib_packing.specs.declared.column.Point.TheVariants.{Missing}
 use Rattle.grib_rescan.specs.declared.scanning.Scanning.{Scanning}
 use Rattle.grib_rescan.specs.Scanning.{Place, scanning_of, place, point_at}
-use Rattle.grib_rescan.specs.Points.{point, row_of, rescanned_points}
+use Rattle.grib_rescan.specs.Points.{point, row_of, box_row_of, rescanned_points}
 use Rattle.grib_rescan.proofs.Turns.{is_in, point_at-place}
 
 range_more : (a n : ℕ) → range_with_len a (suc n) ≡ range_with_len a n ++ (a + n) ∷ []
@@ -50,21 +50,21 @@ rows_at f w a (suc h) i (suc j) each small few =
 length_row : (s : Scanning) (ni nj : ℕ) (points : List Point) (i n j : ℕ) → length (row_of s ni nj points i n j) ≡ n
 length_row s ni nj points i n j = length-map-range_with_len (λ i. point points (point_at s ni nj i j)) i n
 
-pub box_at : (s : Scanning) (ni nj : ℕ) (points : List Point) (i0 w j0 h i j : ℕ) → i < w → j < h
+part_at : (s : Scanning) (ni nj : ℕ) (points : List Point) (i0 w j0 h i j : ℕ) → i < w → j < h
     → point (flat_map (row_of s ni nj points i0 w) (range_with_len j0 h)) (j * w + i) ≡ point points (point_at s ni nj (i0 + i) (j0 + j))
-box_at s ni nj points i0 w j0 h i j small few =
+part_at s ni nj points i0 w j0 h i j small few =
     rows_at (row_of s ni nj points i0 w) w j0 h i j (length_row s ni nj points i0 w) small few
     ∙ get_or-map-range_with_len (λ i. point points (point_at s ni nj i (j0 + j))) i0 w i (i0 + i) Missing small refl
 
-pub box_length : (s : Scanning) (ni nj : ℕ) (points : List Point) (i0 w j0 h : ℕ) → length (flat_map (row_of s ni nj points i0 w) (range_with_len j0 h)) ≡ h * w
-box_length s ni nj points i0 w j0 h = length_rows (row_of s ni nj points i0 w) w j0 h (length_row s ni nj points i0 w)
+pub part_length : (s : Scanning) (ni nj : ℕ) (points : List Point) (i0 w j0 h : ℕ) → length (flat_map (row_of s ni nj points i0 w) (range_with_len j0 h)) ≡ h * w
+part_length s ni nj points i0 w j0 h = length_rows (row_of s ni nj points i0 w) w j0 h (length_row s ni nj points i0 w)
 
 pub rescanned_at : (s : Scanning) (ni nj : ℕ) (points : List Point) (i j : ℕ) → i < ni → j < nj
     → point (rescanned_points s ni nj points) (j * ni + i) ≡ point points (point_at s ni nj i j)
 rescanned_at s ni nj points i j small few =
     let column : 0 + i ≡ i = omega arith in
     let row : 0 + j ≡ j = omega arith in
-    box_at s ni nj points 0 ni 0 nj i j small few ∙ ap₂ (λ k l. point points (point_at s ni nj k l)) column row
+    part_at s ni nj points 0 ni 0 nj i j small few ∙ ap₂ (λ k l. point points (point_at s ni nj k l)) column row
 
 -- the new entry n is the old entry m of its place
 pub rescanned_entry : (s : Scanning) (ni nj : ℕ) (points : List Point) (n m : ℕ) → n < ni * nj → m < ni * nj
@@ -77,4 +77,18 @@ rescanned_entry s ni nj points n m small few same =
     ∙ ap (point points) (point_at-place s ni nj m few)
 
 pub rescanned_length : (s : Scanning) (ni nj : ℕ) (points : List Point) → length (rescanned_points s ni nj points) ≡ ni * nj
-rescanned_length s ni nj points = box_length s ni nj points 0 ni 0 nj ∙ mul_comm nj ni
+rescanned_length s ni nj points = part_length s ni nj points 0 ni 0 nj ∙ mul_comm nj ni
+
+-- ---- of a box
+
+length_box_row : (ni nj : ℕ) (points : List Point) (i n j : ℕ) → length (box_row_of ni nj points i n j) ≡ n
+length_box_row ni nj points i n j = length-map-range_with_len (λ i. point points (point_at (scanning_of 0) ni nj (i % ni) j)) i n
+
+pub box_at : (ni nj : ℕ) (points : List Point) (i0 w j0 h i j : ℕ) → i < w → j < h
+    → point (flat_map (box_row_of ni nj points i0 w) (range_with_len j0 h)) (j * w + i) ≡ point points (point_at (scanning_of 0) ni nj ((i0 + i) % ni) (j0 + j))
+box_at ni nj points i0 w j0 h i j small few =
+    rows_at (box_row_of ni nj points i0 w) w j0 h i j (length_box_row ni nj points i0 w) small few
+    ∙ get_or-map-range_with_len (λ i. point points (point_at (scanning_of 0) ni nj (i % ni) (j0 + j))) i0 w i (i0 + i) Missing small refl
+
+pub box_length : (ni nj : ℕ) (points : List Point) (i0 w j0 h : ℕ) → length (flat_map (box_row_of ni nj points i0 w) (range_with_len j0 h)) ≡ h * w
+box_length ni nj points i0 w j0 h = length_rows (box_row_of ni nj points i0 w) w j0 h (length_box_row ni nj points i0 w)

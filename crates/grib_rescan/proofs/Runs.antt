@@ -1,15 +1,15 @@
 -- Rows as runs of the points.
-use Rattle.std.proofs.Common.{◌≡◌, ℕ, ◌+◌, ◌-◌, ◌*◌, ◌<◌, ◌≤◌, Bool, true, false, ◌&&◌, List, length, take, drop, map, reverse, get_or, refl, sym, ap, ◌∙◌, arith, length-take, length-drop}
-use Rattle.std.proofs.Math.Nat.{mul_comm, mul-le-mul_right}
+use Rattle.std.proofs.Common.{◌≡◌, ℕ, zero, suc, ◌+◌, ◌-◌, ◌*◌, ◌%◌, ◌<◌, ◌≤◌, min, Bool, true, false, ◌&&◌, List, ◌∷◌, ◌++◌, length, take, drop, map, reverse, get_or, refl, sym, ap, ap₂, ◌∙◌, arith, length-take, length-drop}
+use Rattle.std.proofs.Math.Nat.{mul_comm, mul-le-mul_right, mod-eq_of_lt, add-mod_right}
 use Rattle.std.specs.Bool.{beq}
 use Rattle.std.specs.List.{range_with_len}
-use Rattle.std.proofs.lemmas.List.{get_or-drop, get_or-take, get_or-reverse, ext_get_or, length-reverse}
+use Rattle.std.proofs.lemmas.List.{get_or-drop, get_or-take, get_or-reverse, ext_get_or, length-reverse, map-append}
 use Rattle.std.proofs.lemmas.List.FromFn.{length-map-range_with_len, get_or-map-range_with_len}
 use Rattle.grib_packing.specs.declared.column.Point.{Point}
 use Rattle.grib_packing.specs.declared.column.Point.TheVariants.{Missing}
 use Rattle.grib_rescan.specs.declared.scanning.Scanning.{Scanning}
 use Rattle.grib_rescan.specs.Scanning.{is_odd, turned, scanning_of, point_at}
-use Rattle.grib_rescan.specs.Points.{point, row_of}
+use Rattle.grib_rescan.specs.Points.{point, row_of, box_row_of}
 use Rattle.grib_rescan.proofs.Turns.{turned-lt, turned_both, turned_one}
 
 -- the points from `start` on, by a function that gives each its number
@@ -88,13 +88,38 @@ read_backwards s ni nj points j row turns read differ =
     row_backwards points (λ i. point_at s ni nj i j) (row * ni) ni (row_stands_in s ni nj points j row turns read)
     (λ k small. number_of s ni nj points j row turns k (ni - 1 - k) read (turned_one turns s.westward ni k differ))
 
--- ---- a row that is read across columns
-
 -- ---- a row of a box
 
-pub box_row : (ni nj : ℕ) (points : List Point) (i n j : ℕ) → length points ≡ ni * nj → j < nj → i + n ≤ ni
-    → take n (drop (j * ni + i) points) ≡ row_of (scanning_of 0) ni nj points i n j
-box_row ni nj points i n j size small within =
+pub range_joined : (a n m : ℕ) → range_with_len a (n + m) ≡ range_with_len a n ++ range_with_len (a + n) m
+range_joined a zero m =
+    let none : 0 + m ≡ m = omega arith in
+    let same : a + 0 ≡ a = omega arith in
+    rw (none, same) refl
+range_joined a (suc n) m =
+    let more : suc n + m ≡ suc (n + m) = omega arith in
+    let same : a + suc n ≡ a + 1 + n = omega arith in
+    rw (more, same) (ap (λ ks. a ∷ ks) (range_joined (a + 1) n m))
+
+-- the number in its row of a point of the first part, and of one of the part behind the last column
+within_row : (ni i k : ℕ) → i + k < ni → (i + k) % ni ≡ i + k
+within_row ni i k small = mod-eq_of_lt small
+
+behind_last : (ni i k : ℕ) → i ≡ ni → k < ni → (i + k) % ni ≡ k
+behind_last ni i k last small = ap (λ m. m % ni) (omega (arith, last)) ∙ add-mod_right k ni ∙ mod-eq_of_lt small
+
+-- n points from column i on, those up to the last column and the others from the first on
+pub box_row : (ni nj : ℕ) (points : List Point) (i n j : ℕ) → length points ≡ ni * nj → j < nj → i < ni → n ≤ ni → (first others : ℕ) → first ≡ min n (ni - i) → others ≡ n - first
+    → take first (drop (j * ni + i) points) ++ take others (drop (j * ni) points) ≡ box_row_of ni nj points i n j
+box_row ni nj points i n j size small within few first others first_is others_is =
     let h = row_within ni nj j (length points) small size in
-    row_forwards points (λ i. point_at (scanning_of 0) ni nj i j) (j * ni + i) i n (omega (arith, h, within))
-    (λ k few. omega arith)
+    let number = λ (i : ℕ). point_at (scanning_of 0) ni nj (i % ni) j in
+    let told = λ (i : ℕ). point points (number i) in
+    let all : first + others ≡ n = omega (arith, first_is, others_is) in
+    let up_to : i + first ≤ ni = omega (arith, first_is, within) in
+    let east = row_forwards points number (j * ni + i) i first (omega (arith, h, up_to))
+    (λ k less. ap (λ m. j * ni + m) (within_row ni i k (omega (arith, less, up_to))) ∙ omega arith) in
+    let west = row_forwards points number (j * ni) (i + first) others (omega (arith, h, others_is, few))
+    (λ k less. ap (λ m. j * ni + m) (behind_last ni (i + first) k (omega (arith, less, first_is, others_is, within)) (omega (arith, less, others_is, few)))) in
+    ap₂ (λ xs ys. xs ++ ys) east west
+    ∙ sym (map-append told (range_with_len i first) (range_with_len (i + first) others))
+    ∙ ap (map told) (sym (range_joined i first others) ∙ ap (range_with_len i) all)

@@ -10,9 +10,12 @@ use Rattle.grib2_grids.specs.Grid.{grid_rows, grid_templates}
 use Rattle.grib2_grids.specs.Opaque.{is_opaque_grid, grid_rows_under}
 use Rattle.grib2_grids.proofs.Under.{same_grid_rows, grid_header_length}
 use Rattle.grib_rescan.specs.declared.points.Area.{Area}
+use Rattle.grib_rescan.specs.declared.bounds.Bounds.{Bounds}
 use Rattle.grib_rescan.specs.declared.cause.GridCause.{GridCause}
 use Rattle.grib_rescan.specs.Sections.{HasPoints, HasTemplate, IsLatLon}
-use Rattle.grib_rescan.specs.Causes.{rescan_cause_of, crop_cause_of, is_lat_lon, CanBeCut}
+use Rattle.grib_rescan.specs.Bounds.{area_in, area_within}
+use Rattle.grib_rescan.specs.Causes.{rescan_cause_of, crop_cause_of, within_cause_of, is_lat_lon, CanBeCut, HasWithin}
+use Rattle.grib_rescan.proofs.Within.{found, is_box}
 
 not_false : (b : Bool) → not b ≡ false → b ≡ true
 not_false true e = refl
@@ -106,4 +109,20 @@ can_be_cut profile area s none uncaused =
       last_column = below _ _ (first_false _ _ outside.0);
       last_row = below _ _ (last_false _ _ outside.0);
       steps = not_false _ steps.0;
+    }
+
+pub has_within : (profile : Profile) (bounds : Bounds) (s : List ℕ) → first_fault (grid_rows_under profile s) ≡ None → within_cause_of bounds s ≡ None → HasWithin bounds s
+has_within profile bounds s none uncaused =
+    let kind = none_of _ _ _ uncaused in
+    let order = none_of _ _ _ kind.1 in
+    let steps = none_of _ _ _ order.1 in
+    let outside = none_of _ _ _ steps.1 in
+    let is = lat_lon_by profile s none kind.0 in
+    let there = found (area_in bounds s) outside.0 in
+    record {
+      lat_lon = is;
+      order = eqb-true _ _ (not_false _ order.0);
+      steps = not_false _ steps.0;
+      found = there;
+      box = is_box bounds s (area_within bounds s) (has_points s is) there;
     }

@@ -1,10 +1,13 @@
 -- Why the points of a grid are not put in another order, or no box is cut out: the first cause that holds.
-use Rattle.std.specs.Prelude.{◌≡◌, ℕ, ◌%◌, ◌<◌, IsTrue, Bool, not, cond, ◌&&◌, ◌||◌, Option, Some, None, List, [], ◌∷◌, nat_le, ◌==◌}
+use Rattle.std.specs.Prelude.{◌≡◌, ℕ, ◌%◌, ◌<◌, IsTrue, Bool, not, cond, ◌&&◌, ◌||◌, Option, Some, None, is_none, List, [], ◌∷◌, nat_le, ◌==◌}
 use Rattle.grib_bits.specs.Octets.{octets}
 use Rattle.grib_rescan.specs.declared.points.Area.{Area}
+use Rattle.grib_rescan.specs.declared.bounds.Bounds.{Bounds}
 use Rattle.grib_rescan.specs.declared.cause.GridCause.{GridCause}
 use Rattle.grib_rescan.specs.declared.cause.GridCause.TheVariants.{GridKind, ScanMode, OutsideBox, Increments}
 use Rattle.grib_rescan.specs.Sections.{IsLatLon, has_steps}
+use Rattle.grib_rescan.specs.Points.{IsBox}
+use Rattle.grib_rescan.specs.Bounds.{area_in, area_within}
 
 pub record Row : Type 0 where
   pub holds : Bool
@@ -38,6 +41,16 @@ crop_cause_of area s =
     ∷ row (not (has_steps s)) Increments
     ∷ [])
 
+-- a box in degrees is looked for where the increments are known
+abbrev pub within_cause_of : Bounds → List ℕ → Option GridCause
+within_cause_of bounds s =
+    first_cause
+    (row (not (is_lat_lon s)) GridKind
+    ∷ row (not (octets s 72 72 == 0)) ScanMode
+    ∷ row (not (has_steps s)) Increments
+    ∷ row (is_none (area_in bounds s)) OutsideBox
+    ∷ [])
+
 -- a grid out of which a box can be cut whose first column and row are at most its last
 pub record CanBeCut (area : Area) (s : List ℕ) : Type 0 where
   pub lat_lon : IsLatLon s
@@ -45,3 +58,11 @@ pub record CanBeCut (area : Area) (s : List ℕ) : Type 0 where
   pub last_column : area.i1 < octets s 31 34
   pub last_row : area.j1 < octets s 35 38
   pub steps : IsTrue (has_steps s)
+
+-- a grid out of which the box that lies within bounds can be cut
+pub record HasWithin (bounds : Bounds) (s : List ℕ) : Type 0 where
+  pub lat_lon : IsLatLon s
+  pub order : octets s 72 72 ≡ 0
+  pub steps : IsTrue (has_steps s)
+  pub found : area_in bounds s ≡ Some (area_within bounds s)
+  pub box : IsBox (area_within bounds s) (octets s 31 34) (octets s 35 38)

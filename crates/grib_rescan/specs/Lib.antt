@@ -3,5 +3,7 @@ pub mod Points
 pub mod Source
 pub mod Put
 pub mod Sections
+pub mod Bounds
+pub mod Places
 pub mod Causes
 pub mod Worked

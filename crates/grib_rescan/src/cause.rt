@@ -2,8 +2,9 @@
 
 ghost use Rattle.std.specs.Prelude.{◌≡◌};
 ghost use Rattle.grib_rescan.specs.Sections.{HasTemplate};
-ghost use Rattle.grib_rescan.specs.Causes.{rescan_cause_of, crop_cause_of};
+ghost use Rattle.grib_rescan.specs.Causes.{rescan_cause_of, crop_cause_of, within_cause_of};
 
+use crate::bounds::{Bounds, area_in};
 use crate::points::Area;
 use crate::section::steps_stand;
 use grib_bits::{u8_at, u16_at, u32_at};
@@ -15,7 +16,7 @@ pub enum GridCause {
     GridKind,
     /// The scanning mode is not one that can be read.
     ScanMode,
-    /// The subarea does not lie in the grid.
+    /// The subarea does not lie in the grid, or the points within the bounds are none or no box of it.
     OutsideBox,
     /// The first and the last point are not those that the increments give.
     Increments,
@@ -53,6 +54,28 @@ pub fn crop_cause(section: &[u8], area: &Area) -> Option<GridCause>
     }
     if !steps_stand(section) {
         return Some(GridCause::Increments);
+    }
+    None
+}
+
+/// Why the points within bounds are not cut out of a grid with this Section 3, if they are not (WMO-No. 306, Volume
+/// I.2, FM 92 GRIB edition 2, grid definition template 3.0, flag table 3.4). The increments have to be known before
+/// these points can be looked for.
+pub fn within_cause(section: &[u8], bounds: &Bounds) -> Option<GridCause>
+    requires { HasTemplate section.now }
+    ensures { result ≡ within_cause_of bounds.now section.now }
+{
+    if u8_at(section, 6) != 0 || u16_at(section, 13) != 0 || u8_at(section, 11) != 0 {
+        return Some(GridCause::GridKind);
+    }
+    if u8_at(section, 72) != 0 {
+        return Some(GridCause::ScanMode);
+    }
+    if !steps_stand(section) {
+        return Some(GridCause::Increments);
+    }
+    if area_in(section, bounds).is_none() {
+        return Some(GridCause::OutsideBox);
     }
     None
 }

@@ -14,7 +14,8 @@ use std::alloc::{AllocError, Global};
 const BLOCK_COLUMNS: usize = 32;
 
 /// A subarea of a grid: its columns from `i0` to `i1`, counted from the west, and its rows from `j0` to `j1`,
-/// counted from the north, both from 0.
+/// counted from the north, both from 0. In a grid that goes round the earth, columns go on at the first one behind
+/// the last: `i1` is then the number of the columns of the grid, or more.
 #[derive(Clone, Copy, Debug, PartialEq, Eq)]
 pub struct Area {
     pub i0: u32,
@@ -203,12 +204,14 @@ pub fn crop_points<P: GridPoints>(
     requires within { IsBox area.now ni nj }
     ensures { IfOk result (λ cropped. cropped.items ≡ cropped_points area.now ni nj (P.points points.now)) }
 {
-    let width = (area.i1 + 1 - area.i0) as usize;
+    let (first, width) = (area.i0 as usize, (area.i1 - area.i0) as usize + 1);
     let height = (area.j1 + 1 - area.j0) as usize;
+    let to_last = width.min(ni as usize - first);
     let mut cropped = Vec::with_capacity(alloc, width * height)?;
     for row in area.j0..area.j1 + 1 {
-        let start = row as usize * ni as usize + area.i0 as usize;
-        points.add_to(start, width, &mut cropped)?;
+        let start = row as usize * ni as usize;
+        points.add_to(start + first, to_last, &mut cropped)?;
+        points.add_to(start, width - to_last, &mut cropped)?;
     }
     Ok(cropped)
 }

@@ -150,7 +150,7 @@ fn columns_stand(section: &[u8]) -> bool
 }
 
 /// The latitude of row j, counted from the north from 0, in 10^-6 degree.
-fn latitude(section: &[u8], j: u32) -> i64
+pub(crate) fn latitude(section: &[u8], j: u32) -> i64
     requires grid { HasPoints section.now }
     requires row { j < octets section.now 35 38 }
     ensures { result ≡ latitude_at section.now j }
@@ -168,7 +168,7 @@ fn southward(first: i64, steps: u32, step: u32) -> i64
 }
 
 /// The longitude of column i, counted from the west from 0, in 10^-6 degree.
-fn longitude(section: &[u8], i: u32) -> u32
+pub(crate) fn longitude(section: &[u8], i: u32) -> u32
     requires { 72 ≤ length section.now }
     ensures { result ≡ longitude_at section.now i }
 {

@@ -15,7 +15,7 @@ use Rattle.grib_stream.specs.Task.{Task, Given, Gives}
 use Rattle.grib_stream.proofs.Exits.{within_short}
 use Rattle.grib_stream.proofs.Streams.{stream_passed, stream_message, is_begun}
 use Rattle.grib_command.specs.declared.job.Job.{Job}
-use Rattle.grib_command.specs.declared.job.Job.TheVariants.{Check, List as Listing, Keys, Lines, Stats, Dump, Values, Filter, FilterNamed, Filter1, Split, Set, Set1, Repack, RepackLeast, Rescan, Crop, Migrate, Demote, Make, Print}
+use Rattle.grib_command.specs.declared.job.Job.TheVariants.{Check, List as Listing, Keys, Lines, Stats, Dump, Values, Coordinates, Filter, FilterNamed, Filter1, Split, Set, Set1, Repack, RepackLeast, Rescan, Crop, Within, Migrate, Demote, Make, Print}
 use Rattle.grib_command.specs.Command.{Command, given, task, under}
 use Rattle.grib_run_law.specs.Complete.{Piece, IsInGrammar, IsMadeOf, HaveResults}
 use Rattle.grib_run_law.specs.Written.{HasResult}
@@ -35,9 +35,10 @@ made_done Keys stated is = let no : ⊥ = cc in absurd no
 made_done (Lines form columns None) stated is = let no : ⊥ = cc in absurd no
 made_done (Lines form columns (Some names)) stated is = let no : ⊥ = cc in absurd no
 made_done Stats stated is = let no : ⊥ = cc in absurd no
-made_done (Dump None) stated is = let no : ⊥ = cc in absurd no
-made_done (Dump (Some places)) stated is = let no : ⊥ = cc in absurd no
+made_done (Dump None placed) stated is = let no : ⊥ = cc in absurd no
+made_done (Dump (Some places) placed) stated is = let no : ⊥ = cc in absurd no
 made_done (Values format) stated is = let no : ⊥ = cc in absurd no
+made_done Coordinates stated is = let no : ⊥ = cc in absurd no
 made_done (Filter conditions) stated is = let no : ⊥ = cc in absurd no
 made_done (FilterNamed conditions names wanted) stated is = let no : ⊥ = cc in absurd no
 made_done (Filter1 conditions) stated is = let no : ⊥ = cc in absurd no
@@ -48,6 +49,7 @@ made_done (Repack target) stated is = let no : ⊥ = cc in absurd no
 made_done (RepackLeast profile) stated is = let no : ⊥ = cc in absurd no
 made_done Rescan stated is = let no : ⊥ = cc in absurd no
 made_done (Crop area) stated is = let no : ⊥ = cc in absurd no
+made_done (Within bounds) stated is = let no : ⊥ = cc in absurd no
 made_done (Migrate params surfaces local) stated is = let no : ⊥ = cc in absurd no
 made_done (Demote params keep_local any_earth matching) stated is = let no : ⊥ = cc in absurd no
 made_done (Make seed ni nj target) stated is =

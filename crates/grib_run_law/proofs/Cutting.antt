@@ -16,7 +16,7 @@ use Rattle.grib_stream.proofs.Parts.{AsParts, parts_done}
 use Rattle.grib_run_law.proofs.Alone.{Fixed, changing_fixed, values_fixed, choosing_fixed, filter1_fixed, set1_fixed, migrate_fixed, demote_fixed, stands_alone}
 use Rattle.grib_run_law.proofs.Each.{written_join}
 use Rattle.grib_command.specs.declared.job.Job.{Job}
-use Rattle.grib_command.specs.declared.job.Job.TheVariants.{Check, List as Listing, Keys, Lines, Stats, Dump, Values, Filter, FilterNamed, Filter1, Split, Set, Set1, Repack, RepackLeast, Rescan, Crop, Migrate, Demote, Make, Print}
+use Rattle.grib_command.specs.declared.job.Job.TheVariants.{Check, List as Listing, Keys, Lines, Stats, Dump, Values, Coordinates, Filter, FilterNamed, Filter1, Split, Set, Set1, Repack, RepackLeast, Rescan, Crop, Within, Migrate, Demote, Make, Print}
 use Rattle.grib_command.specs.Command.{Command, IsLawfulCommand, changing_unless, reading_values, task, under}
 use Rattle.grib_command.specs.LawfulCommands.{under_lawful}
 use Rattle.grib_run_law.specs.Each.{writes_each}
@@ -102,6 +102,7 @@ job_parts profile (Repack target) texts front rest is each fits ends done = valu
 job_parts profile (RepackLeast tried) texts front rest is each fits ends done = values_parts profile (2 ^ 40) front rest fits ends (λ message. None) (least tried) (least_lawful tried) done
 job_parts profile Rescan texts front rest is each fits ends done = values_parts profile (2 ^ 40) front rest fits ends _ _ (edit_lawful edits.Rescan) done
 job_parts profile (Crop area) texts front rest is each fits ends done = values_parts profile (2 ^ 40) front rest fits ends _ _ (edit_lawful (edits.Crop area)) done
+job_parts profile (Within bounds) texts front rest is each fits ends done = values_parts profile (2 ^ 40) front rest fits ends _ _ (edit_lawful (edits.Within bounds)) done
 job_parts profile (Migrate params surfaces local) texts front rest is each fits ends done =
     tabled_parts profile (migrating local) (λ tables. migrate_lawful local tables.parameters tables.surfaces) (λ tables. migrate_fixed local tables.parameters tables.surfaces)
     (together (by_parameters params surfaces) texts) front rest fits ends done
@@ -113,8 +114,9 @@ job_parts profile Listing texts front rest is each fits ends done = absurd (fals
 job_parts profile Keys texts front rest is each fits ends done = absurd (false≢true each)
 job_parts profile (Lines form columns names) texts front rest is each fits ends done = absurd (false≢true each)
 job_parts profile Stats texts front rest is each fits ends done = absurd (false≢true each)
-job_parts profile (Dump decimals) texts front rest is each fits ends done = absurd (false≢true each)
+job_parts profile (Dump decimals placed) texts front rest is each fits ends done = absurd (false≢true each)
 job_parts profile (Values format) texts front rest is each fits ends done = absurd (false≢true each)
+job_parts profile Coordinates texts front rest is each fits ends done = absurd (false≢true each)
 job_parts profile (Split name edition_1) texts front rest is each fits ends done = absurd (false≢true each)
 job_parts profile (Make seed ni nj target) texts front rest is each fits ends done = absurd (false≢true each)
 job_parts profile (Print page) texts front rest is each fits ends done = absurd (false≢true each)

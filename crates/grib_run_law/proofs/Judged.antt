@@ -32,7 +32,7 @@ use Rattle.grib_items.specs.Items.{Item, Accepted, Refused, End, Over, Refusing,
 use Rattle.grib_items.specs.Next.{Unknown, Refuses, next_judged, next_passed, passed}
 use Rattle.grib_items.specs.Laws.{AreInOrder, item_before, item_size, is_refusal}
 use Rattle.grib_command.specs.declared.job.Job.{Job}
-use Rattle.grib_command.specs.declared.job.Job.TheVariants.{Check, List as Listing, Keys, Lines, Stats, Dump, Values, Filter, FilterNamed, Filter1, Split, Set, Set1, Repack, RepackLeast, Rescan, Crop, Migrate, Demote, Make, Print}
+use Rattle.grib_command.specs.declared.job.Job.TheVariants.{Check, List as Listing, Keys, Lines, Stats, Dump, Values, Coordinates, Filter, FilterNamed, Filter1, Split, Set, Set1, Repack, RepackLeast, Rescan, Crop, Within, Migrate, Demote, Make, Print}
 use Rattle.grib_command.specs.Command.{Command, given, given_readable, given_unless, kept_at, of_values, task, under}
 use Rattle.grib_command.specs.Judging.{judge_under, fields_of}
 use Rattle.grib_command.specs.Texts.{texts}
@@ -43,7 +43,10 @@ use Rattle.grib_report.specs.Lining.{lines_command}
 use Rattle.grib_report.specs.Summing.{stats_command}
 use Rattle.grib_report.specs.Dumping.{dump_command}
 use Rattle.grib_report.specs.Valuing.{text_unless, value_command}
+use Rattle.grib_placed.specs.Dumping.{dump_placed_command}
+use Rattle.grib_placed.specs.Valuing.{value_placed_command}
 use Rattle.grib_values.specs.Arrays.{values_command}
+use Rattle.grib_values.specs.Coordinates.{coordinates_command}
 use Rattle.grib_edit.specs.Filtering.{filter_command}
 use Rattle.grib_edit.specs.FilteringNamed.{filter_named_command}
 use Rattle.grib_edit.specs.Filtering1.{filter1_command}
@@ -122,8 +125,11 @@ job_never Keys = by_edition keys_command (λ place message. gives_never _ _) (λ
 job_never (Lines form columns None) = by_edition (lines_command form columns []) (λ place message. gives_never _ _) (λ place message. gives_never _ _)
 job_never (Lines form columns (Some names)) = λ tables. by_edition (lines_command form columns tables.names) (λ place message. gives_never _ _) (λ place message. gives_never _ _)
 job_never Stats = by_edition stats_command (λ place message. gives_never _ _) (values_never _ (λ place message. gives_never _ _))
-job_never (Dump None) = by_edition dump_command (λ place message. gives_never _ _) (values_never _ (λ place message. gives_never _ _))
-job_never (Dump (Some places)) = by_edition (value_command places) (λ place message. text_never _ _ _) (values_never _ (λ place message. text_never _ _ _))
+job_never (Dump None false) = by_edition dump_command (λ place message. gives_never _ _) (values_never _ (λ place message. gives_never _ _))
+job_never (Dump None true) = by_edition dump_placed_command (λ place message. kept_never _ _) (values_never _ (λ place message. text_never _ _ _))
+job_never (Dump (Some places) false) = by_edition (value_command places) (λ place message. text_never _ _ _) (values_never _ (λ place message. text_never _ _ _))
+job_never (Dump (Some places) true) = by_edition (value_placed_command places) (λ place message. kept_never _ _) (values_never _ (λ place message. text_never _ _ _))
+job_never Coordinates = by_edition coordinates_command (λ place message. kept_never _ _) (λ place message. text_never _ _ _)
 job_never (Values format) = by_edition (values_command format) (λ place message. gives_never _ _) (values_never _ (λ place message. gives_never _ _))
 job_never (Filter conditions) = by_edition (filter_command conditions) (λ place message. kept_never _ _) (λ place message. gives_never _ _)
 job_never (FilterNamed conditions names wanted) = λ tables. by_edition (filter_named_command conditions wanted tables.names) (λ place message. kept_never _ _) (λ place message. gives_never _ _)
@@ -136,6 +142,7 @@ job_never (Repack target) = by_edition (repack_command target) (λ place message
 job_never (RepackLeast profile) = by_edition (least_command profile) (λ place message. kept_never _ _) (values_never _ (λ place message. unless_never None place.message (least profile message)))
 job_never Rescan = by_edition (edit_command edits.Rescan) (λ place message. kept_never _ _) (values_never _ (λ place message. unless_never _ _ _))
 job_never (Crop area) = by_edition (edit_command (edits.Crop area)) (λ place message. kept_never _ _) (values_never _ (λ place message. unless_never _ _ _))
+job_never (Within bounds) = by_edition (edit_command (edits.Within bounds)) (λ place message. kept_never _ _) (values_never _ (λ place message. unless_never _ _ _))
 job_never (Migrate params surfaces local) = λ tables.
     by_edition (migrate_command local tables.parameters tables.surfaces) (λ place message. either_never (are_octets message) _ _ (unless_never _ _ _) (gives_never _ _)) (λ place message. gives_never _ _)
 job_never (Demote params keep any_earth matching) = λ tables. by_edition (demote_command matching keep any_earth tables.parameters) (λ place message. gives_never _ _) (values_never _ (λ place message. unless_never _ _ _))

@@ -27,7 +27,7 @@ use Rattle.grib_items.specs.Laws.{is_whole}
 use Rattle.grib_items.specs.Run.{answer_of, answer_within}
 use Rattle.grib_items.specs.Steps.{Plan}
 use Rattle.grib_command.specs.declared.job.Job.{Job}
-use Rattle.grib_command.specs.declared.job.Job.TheVariants.{Check, List as Listing, Keys, Lines, Stats, Dump, Values, Filter, FilterNamed, Filter1, Split, Set, Set1, Repack, RepackLeast, Rescan, Crop, Migrate, Demote, Make, Print}
+use Rattle.grib_command.specs.declared.job.Job.TheVariants.{Check, List as Listing, Keys, Lines, Stats, Dump, Values, Coordinates, Filter, FilterNamed, Filter1, Split, Set, Set1, Repack, RepackLeast, Rescan, Crop, Within, Migrate, Demote, Make, Print}
 use Rattle.grib_command.specs.Command.{Command, under}
 use Rattle.grib_command.specs.Jobs.{IsJob, CanChange, CanChange1, is_target}
 use Rattle.grib_edit.specs.Filtering.{filter_command}
@@ -188,8 +188,9 @@ module _ (profile : Profile) (stand : ItemsStand profile) (write : WritesAll pro
   job_leaves Keys policy outcome before now is answers = tt
   job_leaves Stats policy outcome before now is answers = tt
   job_leaves (Lines form columns names) policy outcome before now is answers = tt
-  job_leaves (Dump places) policy outcome before now is answers = tt
+  job_leaves (Dump decimals placed) policy outcome before now is answers = tt
   job_leaves (Values format) policy outcome before now is answers = tt
+  job_leaves Coordinates policy outcome before now is answers = tt
   job_leaves (Filter conditions) policy outcome before now is reading = λ unbroken.
       leaves (IsFiltered profile conditions) (IsFiltered profile conditions) (under profile (filter_command conditions)) policy outcome before now (write.filtered conditions policy)
       (λ more octets small wrote. wrote) reading unbroken
@@ -218,6 +219,7 @@ module _ (profile : Profile) (stand : ItemsStand profile) (write : WritesAll pro
   job_leaves (RepackLeast tried) policy outcome before now is answers = tt
   job_leaves Rescan policy outcome before now is answers = tt
   job_leaves (Crop area) policy outcome before now is answers = tt
+  job_leaves (Within bounds) policy outcome before now is answers = tt
   job_leaves (Migrate params surfaces local) policy outcome before now is (texts, stood, answers) = λ unbroken. (
     texts,
     stood,

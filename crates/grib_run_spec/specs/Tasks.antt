@@ -21,7 +21,7 @@ use Rattle.grib_keys.specs.declared.wanted.Wanted.{Wanted}
 use Rattle.grib_text.specs.declared.column.LineForm.{LineForm}
 use Rattle.grib_text.specs.declared.column.Column.{Column}
 use Rattle.grib_command.specs.declared.job.Job.{Job}
-use Rattle.grib_command.specs.declared.job.Job.TheVariants.{Check, List as Listing, Keys, Lines, Stats, Dump, Values, Filter, FilterNamed, Filter1, Split, Set, Set1, Repack, RepackLeast, Rescan, Crop, Migrate, Demote, Make, Print}
+use Rattle.grib_command.specs.declared.job.Job.TheVariants.{Check, List as Listing, Keys, Lines, Stats, Dump, Values, Coordinates, Filter, FilterNamed, Filter1, Split, Set, Set1, Repack, RepackLeast, Rescan, Crop, Within, Migrate, Demote, Make, Print}
 use Rattle.grib_report.specs.Checking.{check_command}
 use Rattle.grib_command.specs.Command.{Command, task, under}
 use Rattle.grib_report.specs.Dumping.{dump_command}
@@ -45,7 +45,10 @@ use Rattle.grib_edit.specs.Setting1.{set1_command}
 use Rattle.grib_edit.specs.Splitting.{split_command}
 use Rattle.grib_report.specs.Summing.{stats_command}
 use Rattle.grib_report.specs.Valuing.{value_command}
+use Rattle.grib_placed.specs.Dumping.{dump_placed_command}
+use Rattle.grib_placed.specs.Valuing.{value_placed_command}
 use Rattle.grib_values.specs.Arrays.{values_command}
+use Rattle.grib_values.specs.Coordinates.{coordinates_command}
 
 -- A stated answer: all that is done, the lines that are noted of what the run goes past, what is noted behind them, and how
 -- the run ends.
@@ -114,9 +117,12 @@ work_of_job Listing = Reads list_command
 work_of_job Keys = Reads keys_command
 work_of_job (Lines form columns names) = lines_work form columns names
 work_of_job Stats = Reads stats_command
-work_of_job (Dump None) = Reads dump_command
-work_of_job (Dump (Some places)) = Reads (value_command places)
+work_of_job (Dump None false) = Reads dump_command
+work_of_job (Dump None true) = Reads dump_placed_command
+work_of_job (Dump (Some places) false) = Reads (value_command places)
+work_of_job (Dump (Some places) true) = Reads (value_placed_command places)
 work_of_job (Values format) = Reads (values_command format)
+work_of_job Coordinates = Reads coordinates_command
 work_of_job (Filter conditions) = Reads (filter_command conditions)
 work_of_job (FilterNamed conditions name wanted) = ReadsTables (by_names name) (filtering_named conditions wanted)
 work_of_job (Filter1 conditions) = Reads (filter1_command conditions)
@@ -127,6 +133,7 @@ work_of_job (Repack target) = Reads (repack_command target)
 work_of_job (RepackLeast profile) = Reads (least_command profile)
 work_of_job Rescan = Reads (edit_command edits.Rescan)
 work_of_job (Crop area) = Reads (edit_command (edits.Crop area))
+work_of_job (Within bounds) = Reads (edit_command (edits.Within bounds))
 work_of_job (Migrate params surfaces local) = ReadsTables (by_parameters params surfaces) (migrating local)
 work_of_job (Demote params keep_local any_earth matching) = ReadsTables (by_parameters params None) (demoting matching keep_local any_earth)
 work_of_job (Make seed ni nj target) = Makes (made_answer seed ni nj target)

@@ -48,7 +48,7 @@ const WORDS_AT_FAULT: [(&str, &str); 15] = [
     ),
     (
         "help -h",
-        "word 0 \"-h\": no words but --help and --version begin with a dash\n",
+        "word 0 \"-h\": no arguments but --help and --version begin with a dash\n",
     ),
     (
         "help filter level=500",
@@ -88,14 +88,31 @@ const WORDS_AT_FAULT: [(&str, &str); 15] = [
     ),
     (
         "help list -p centre",
-        "word 1 \"-p\": no word behind list begins with a dash; its words: grib help list\n",
+        "word 1 \"-p\": no argument after list begins with a dash; its arguments: grib help list\n",
     ),
 ];
 
-const VALUES_AT_FAULT: [(&str, &str); 11] = [
+const VALUES_AT_FAULT: [(&str, &str); 16] = [
     (
         "help dump decimals=19",
         "word 1 \"decimals=19\": decimals is a whole number from 0 to 18\n",
+    ),
+    ("help dump place=no", "word 1 \"place=no\": place is yes\n"),
+    (
+        "help crop south=-90.5",
+        "word 1 \"south=-90.5\": south is degrees from -90 to 90, with up to six decimals\n",
+    ),
+    (
+        "help crop lat=1 lon=13,4",
+        "word 2 \"lon=13,4\": lon is degrees from -360 to 360, with up to six decimals\n",
+    ),
+    (
+        "help crop i2=0",
+        "word 1 \"i2=0\": crop has no i2=; its arguments: grib help crop\n",
+    ),
+    (
+        "help filter Centre=kwbc",
+        "word 1 \"Centre=kwbc\": Centre is a value, a list as 1,2 or a range as 0..24; a value is a whole number without zeros before it\n",
     ),
     (
         "help repack to=ccsds",
@@ -123,31 +140,31 @@ const VALUES_AT_FAULT: [(&str, &str); 11] = [
     ),
     (
         "help make profile=open",
-        "word 1 \"profile=open\": make has no profile=; its words: grib help make\n",
+        "word 1 \"profile=open\": make has no profile=; its arguments: grib help make\n",
     ),
     ("help demote earth=6", "word 1 \"earth=6\": earth is any\n"),
     (
         "help check decimals=3",
-        "word 1 \"decimals=3\": check has no decimals=; its words: grib help check\n",
+        "word 1 \"decimals=3\": check has no decimals=; its arguments: grib help check\n",
     ),
     (
         "help version gfs.grb",
-        "word 1 \"gfs.grb\": version reads no file; its words: grib help version\n",
+        "word 1 \"gfs.grb\": version reads no file; its arguments: grib help version\n",
     ),
 ];
 
 const EDITIONS_AT_FAULT: [(&str, &str); 7] = [
     (
         "help filter Centre=98 year=2024",
-        "word 2 \"year=2024\": year is of edition 2, and a word before it of edition 1; write those of one edition\n",
+        "word 2 \"year=2024\": year is of edition 2, and an argument before it of edition 1; write those of one edition\n",
     ),
     (
         "help set year=2024 kept=copy Centre=98",
-        "word 3 \"Centre=98\": Centre is of edition 1, and a word before it of edition 2; write those of one edition\n",
+        "word 3 \"Centre=98\": Centre is of edition 1, and an argument before it of edition 2; write those of one edition\n",
     ),
     (
         "help filter name=TMP Level!=1..5 names=t",
-        "word 2 \"Level!=1..5\": Level! is of edition 1, and a word before it of edition 2; write those of one edition\n",
+        "word 2 \"Level!=1..5\": Level! is of edition 1, and an argument before it of edition 2; write those of one edition\n",
     ),
     (
         "help filter levelType=100",
@@ -190,7 +207,7 @@ const MORE_AT_FAULT: [(&str, &str); 9] = [
     ),
     (
         "help keys with=year",
-        "word 1 \"with=year\": keys has no with=; its words: grib help keys\n",
+        "word 1 \"with=year\": keys has no with=; its arguments: grib help keys\n",
     ),
     (
         "help filter name=T+ names=t",
@@ -250,15 +267,29 @@ const MORE_DONE: [(&str, &str); 8] = [
     ),
     (
         "help split out=p editions=both",
-        "grib split out=p editions=both: writes the n-th field, of either edition, to the file of this name with .n behind it.\n",
+        "grib split out=p editions=both: writes the n-th field, of either edition, to the file of this name with .n after it.\n",
     ),
 ];
 
-const WANTED: [(&str, &str); 7] = [
+const WANTED: [(&str, &str); 12] = [
     ("help crop i0=0 i1=9", "crop wants j0= and j1=\n"),
     (
         "help crop i0=1 i1=0 j0=0 j1=0",
         "crop wants i0= at most i1=, and j0= at most j1=\n",
+    ),
+    ("help crop north=1 east=2", "crop wants south= and west=\n"),
+    (
+        "help crop north=1 south=2 west=0 east=0",
+        "crop wants south= at most north=\n",
+    ),
+    ("help crop lat=1", "crop wants lon=\n"),
+    (
+        "help crop lat=1 lon=1 i0=0",
+        "crop wants lat= and lon= alone\n",
+    ),
+    (
+        "help crop i0=0 i1=0 j0=0 j1=0 east=2",
+        "crop wants columns and rows alone, or a box in degrees alone\n",
     ),
     ("help make ni=2", "make wants seed= and nj= and to=\n"),
     (
@@ -276,7 +307,7 @@ const WANTED: [(&str, &str); 7] = [
     ),
 ];
 
-const DONE: [(&str, &str); 8] = [
+const DONE: [(&str, &str); 14] = [
     (
         "help list refused=pass",
         "grib list refused=pass: writes a line for each field, and skips what is refused.\n",
@@ -302,12 +333,36 @@ const DONE: [(&str, &str); 8] = [
         "grib dump decimals=2: writes for each field its list line, R, E and D, and the value of each point with so many decimals.\n",
     ),
     (
+        "help dump place=yes",
+        "grib dump place=yes: writes for each field its list line, R, E and D, and the place and the scaled integer of each point.\n",
+    ),
+    (
+        "help dump decimals=2 place=yes",
+        "grib dump decimals=2 place=yes: writes for each field its list line, R, E and D, and the place and the value of each point, the value with so many decimals.\n",
+    ),
+    (
+        "help coordinates kept=pass",
+        "grib coordinates kept=pass: writes for each field the latitudes and the longitudes of its points as arrays of NumPy, and leaves out a message that it cannot change or print.\n",
+    ),
+    (
+        "help crop i0=0 i1=0 j0=0 j1=0",
+        "grib crop i0=0 i1=0 j0=0 j1=0: writes of each message these grid columns and rows.\n",
+    ),
+    (
+        "help crop north=1 south=0 west=0 east=0",
+        "grib crop north=1 south=0 west=0 east=0: writes of each message the grid points in this box.\n",
+    ),
+    (
+        "help crop lat=1 lon=0",
+        "grib crop lat=1 lon=0: writes of each message the grid point nearest to this place.\n",
+    ),
+    (
         "help --version",
         "grib --version: writes the version of the program.\n",
     ),
     (
         "help help list",
-        "grib help list: tells of the words after help.\n",
+        "grib help list: tells of the arguments after help.\n",
     ),
 ];
 
@@ -330,7 +385,7 @@ const TEXTS: [(&str, &str); 8] = [
     ),
     (
         "help OutsideBox",
-        "OutsideBox          kept by crop: i1 or j1 is beyond the last column or row\n",
+        "OutsideBox          kept by crop: i1 or j1 is beyond the last column or row, or no grid point is in the box in degrees, or the box goes across the ends of a grid that does not go round the Earth\n",
     ),
     (
         "help Packing",
@@ -342,7 +397,7 @@ const TEXTS: [(&str, &str); 8] = [
     ),
     (
         "help version",
-        "version takes no word: the version of the program; reads no input.\n",
+        "version takes no argument: the version of the program; reads no input.\n",
     ),
 ];
 

@@ -9,8 +9,9 @@ const HELP: &str = "\
 grib check                                        lines on messages and input\n\
 grib list [with=KEY,..] [names=FILE]              a line for each field\n\
 grib keys [show=KEY,..] [names=FILE]              the keys of each field\n\
-grib dump [decimals=0..18]                        the points of each field\n\
+grib dump [decimals=0..18] [place=yes]            the points of each field\n\
 grib values [as=f8|f4]                            fields as arrays of NumPy\n\
+grib coordinates                                  places of points, likewise\n\
 grib stats                                        counts and extremes of fields\n\
 grib filter KEY=VALUE .. [name=N,.. names=FILE]   fields that have these values\n\
 grib split out=NAME [editions=both]               fields as files NAME.1, NAME.2\n\
@@ -22,14 +23,16 @@ grib demote params=FILE [local=keep] [earth=any]  edition 2 to edition 1\n\
 grib demote .. [tables=any]                       by records of any tables\n\
 grib rescan                                       points in scanning mode 0\n\
 grib crop i0=N i1=N j0=N j1=N                     a box of each grid\n\
+grib crop north=D south=D west=D east=D           a box in degrees\n\
+grib crop lat=D lon=D                             the nearest point\n\
 grib make seed=N ni=N nj=N to=0|2|3 [order=1|2]   a message made from a number\n\
 grib help                                         this page\n\
 grib version                                      the version of this program\n\
-Beside these words, in any place:\n\
-check to stats [refused=pass]                     on behind what is refused\n\
-filter to crop [refused=copy|pass]                the same, or copied\n\
-filter to crop [kept=copy|pass]                   on behind what is kept\n\
-dump, values [kept=pass]                          the same\n\
+Further arguments, in any place:\n\
+check to stats [refused=pass]                     goes on after what is refused\n\
+filter to crop [refused=copy|pass]                the same, or copies it\n\
+filter to crop [kept=copy|pass]                   goes on after what cannot be changed\n\
+dump, values, coordinates [kept=pass]             the same\n\
 check to crop [profile=open]                      any grid, product and packing\n\
 Messages come from standard input and go to standard output. The pages: man grib\n\
 ";

@@ -47,9 +47,13 @@ fn boxes_are_cut_out_of_large_messages(rt: HostRuntime) -> Result<(), Fail> {
     };
     let octets = five_times(rt.alloc(), message(rt.alloc(), LARGE, &HOURS)?.as_slice())?;
     let wanted = five_times(rt.alloc(), message(rt.alloc(), area, &HOURS)?.as_slice())?;
-    let words = "crop i0=20 i1=289 j0=50 j1=349";
-    let cropped = ran(rt.alloc(), words, octets.as_slice())?;
     let note = "messages 5 fields 25 written 2027215\n";
-    assert!(rt; cropped.gave(Outcome::Done, wanted.as_slice(), note));
+    for words in [
+        "crop i0=20 i1=289 j0=50 j1=349",
+        "crop north=45 south=15.1 west=12 east=38.9",
+    ] {
+        let cropped = ran(rt.alloc(), words, octets.as_slice())?;
+        assert!(rt; cropped.gave(Outcome::Done, wanted.as_slice(), note));
+    }
     Ok(())
 }

@@ -37,12 +37,12 @@ impl Area {
     }
 
     /// The latitude of a row of the grid, in 10^-6 degree.
-    fn latitude(row: u32) -> u32 {
+    pub(crate) fn latitude(row: u32) -> u32 {
         50_000_000u32.saturating_sub(row.saturating_mul(100_000))
     }
 
     /// The longitude of a column of the grid, in 10^-6 degree.
-    fn longitude(column: u32) -> u32 {
+    pub(crate) fn longitude(column: u32) -> u32 {
         column.saturating_mul(100_000).saturating_add(10_000_000)
     }
 

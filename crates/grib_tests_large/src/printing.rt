@@ -2,6 +2,7 @@
 
 use crate::messages::{Area, LARGE, SMALL, five_times, message, ran};
 use grib_engine::Outcome;
+use grib_samples::between;
 use std::alloc::{AllocError, Global};
 use std::test::Fail;
 
@@ -69,6 +70,85 @@ fn array(alloc: Global, area: Area) -> Result<Vec<u8>, AllocError> {
         octets.extend_from_slice(&nearest(*number))?;
     }
     Ok(octets)
+}
+
+// So many 10^-6 degree, a tenth of a degree at a time, as they are printed.
+fn degrees_text(alloc: Global, micro: u32) -> Result<String, AllocError> {
+    let (whole, tenths) = (micro / 1_000_000, micro / 100_000 % 10);
+    format!(in alloc; "{whole}.{tenths}00000")
+}
+
+// The reference line of a field and the lines of its points, with their places.
+fn placed_points(alloc: Global, area: Area) -> Result<Vec<u8>, AllocError> {
+    let mut lines = REFERENCE.as_bytes().to_vec(alloc)?;
+    let mut points = area.numbers(alloc)?.into_iter();
+    let mut place = 0u32;
+    for row in 0..area.rows {
+        let north = degrees_text(alloc, Area::latitude(row))?;
+        for column in 0..area.columns {
+            place = place.saturating_add(1);
+            let east = degrees_text(alloc, Area::longitude(column))?;
+            let number = points.next().unwrap_or(0);
+            let line = format!(in alloc; "{place} {north} {east} {number}\n")?;
+            lines.extend_from_slice(line.as_bytes())?;
+        }
+    }
+    Ok(lines)
+}
+
+// The octets of the binary64 number nearest to so many 10^-6 degree, from 8 to 64 degrees. 10^6 has fewer factors of 2
+// than the digits are moved by, so that it is never half way between two numbers.
+fn nearest_degrees(micro: u32) -> [u8; 8] {
+    let power = if micro >= 32_000_000 {
+        5u32
+    } else if micro >= 16_000_000 {
+        4
+    } else {
+        3
+    };
+    let moved = u128::from(micro) << 52u32.saturating_sub(power);
+    let digits = (moved / 500_000).saturating_add(1) / 2;
+    let field = u64::from(power).saturating_add(1023) << 52;
+    let octets = field | (digits as u64 & 0xf_ffff_ffff_ffff);
+    octets.to_le_bytes()
+}
+
+// The array of the latitudes of a field of 20 rows and 300 columns, and that of its longitudes.
+fn places(alloc: Global, area: Area) -> Result<Vec<u8>, AllocError> {
+    let head = between(array(alloc, area)?.as_slice(), 0, 128).to_vec(alloc)?;
+    let mut octets = head.clone()?;
+    for row in 0..area.rows {
+        for _column in 0..area.columns {
+            octets.extend_from_slice(&nearest_degrees(Area::latitude(row)))?;
+        }
+    }
+    octets.extend_from_slice(head.as_slice())?;
+    for _row in 0..area.rows {
+        for column in 0..area.columns {
+            octets.extend_from_slice(&nearest_degrees(Area::longitude(column)))?;
+        }
+    }
+    Ok(octets)
+}
+
+#[test]
+fn places_of_many_fields_are_arrays(rt: HostRuntime) -> Result<(), Fail> {
+    let octets = five_times(rt.alloc(), message(rt.alloc(), SMALL, &HOURS)?.as_slice())?;
+    let fields = five_times(rt.alloc(), places(rt.alloc(), SMALL)?.as_slice())?;
+    let arrays = five_times(rt.alloc(), fields.as_slice())?;
+    let written = ran(rt.alloc(), "coordinates", octets.as_slice())?;
+    assert!(rt; written.gave(Outcome::Done, arrays.as_slice(), ""));
+    Ok(())
+}
+
+#[test]
+fn points_of_many_fields_have_their_places(rt: HostRuntime) -> Result<(), Fail> {
+    let octets = five_times(rt.alloc(), message(rt.alloc(), SMALL, &HOURS)?.as_slice())?;
+    let points = placed_points(rt.alloc(), SMALL)?;
+    let lines = lines(rt.alloc(), 6_000, points.as_slice())?;
+    let dumped = ran(rt.alloc(), "dump place=yes", octets.as_slice())?;
+    assert!(rt; dumped.gave(Outcome::Done, lines.as_slice(), ""));
+    Ok(())
 }
 
 #[test]

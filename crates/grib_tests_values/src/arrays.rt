@@ -1,7 +1,7 @@
-//! `values`. Expected words are Python's exact fractions, rounded once, half to even, and headers are put together as
+//! `values` and `coordinates`. Expected words are Python's exact fractions, rounded once, half to even, and headers are put together as
 //! NumPy's format says.
 
-use grib_engine::Outcome;
+use grib_engine::{Cause, Kept, Outcome};
 use grib_samples::{
     FIRST_EDITION, FOUR_NUMBERS, FOUR_VALUES, GRID, IDENTIFICATION, MASKED, NO_BITMAP, PLAIN,
     PRODUCT, REDUCED, TWO_FIELDS, between, edited, message_of, put,
@@ -297,6 +297,171 @@ fn a_large_field_has_all_its_values(rt: HostRuntime) -> Result<(), Fail> {
         (720_120, 720_128, b"\0\0\0\0\0\xba\xb5\x40"),
     ] {
         assert!(rt; between(output, from, to) == word.as_slice());
+    }
+    Ok(())
+}
+
+// The latitudes and the longitudes of the plain message, row by row.
+const LATITUDES: &[u8] = b"\x00\x00\x00\x00\x00\x00\x49\x40\
+\x00\x00\x00\x00\x00\x00\x49\x40\
+\x00\x00\x00\x00\x00\x80\x48\x40\
+\x00\x00\x00\x00\x00\x80\x48\x40";
+
+const LONGITUDES: &[u8] = b"\x00\x00\x00\x00\x00\x00\x24\x40\
+\x00\x00\x00\x00\x00\x00\x26\x40\
+\x00\x00\x00\x00\x00\x00\x24\x40\
+\x00\x00\x00\x00\x00\x00\x26\x40";
+
+// The two arrays of a field of this shape.
+fn coordinates(
+    alloc: Global,
+    shape: &str,
+    latitudes: &[u8],
+    longitudes: &[u8],
+) -> Result<Vec<u8>, AllocError> {
+    let mut octets = array(alloc, "<f8", shape, latitudes)?;
+    octets.extend_from_slice(array(alloc, "<f8", shape, longitudes)?.as_slice())?;
+    Ok(octets)
+}
+
+#[test]
+fn the_places_of_points_are_two_arrays(rt: HostRuntime) -> Result<(), Fail> {
+    let one = coordinates(rt.alloc(), "(2, 2)", LATITUDES, LONGITUDES)?;
+    for words in [
+        "coordinates",
+        "coordinates refused=pass kept=pass profile=open",
+    ] {
+        assert!(rt; gives(rt.alloc(), words, &PLAIN, one.as_slice())?);
+    }
+    // Each field has its own.
+    let mut two = one.clone()?;
+    two.extend_from_slice(one.as_slice())?;
+    assert!(rt; gives(rt.alloc(), "coordinates", &TWO_FIELDS, two.as_slice())?);
+    Ok(())
+}
+
+#[test]
+fn places_follow_the_scanning_mode(rt: HostRuntime) -> Result<(), Fail> {
+    for (scanning, latitudes, longitudes) in [
+        // The first point stands at La1 and Lo1, and rows go from there to La2.
+        (0x40, LATITUDES, LONGITUDES),
+        // Points of a column are consecutive.
+        (
+            0x20,
+            b"\x00\x00\x00\x00\x00\x00\x49\x40\
+\x00\x00\x00\x00\x00\x80\x48\x40\
+\x00\x00\x00\x00\x00\x00\x49\x40\
+\x00\x00\x00\x00\x00\x80\x48\x40",
+            b"\x00\x00\x00\x00\x00\x00\x24\x40\
+\x00\x00\x00\x00\x00\x00\x24\x40\
+\x00\x00\x00\x00\x00\x00\x26\x40\
+\x00\x00\x00\x00\x00\x00\x26\x40",
+        ),
+        // The second row goes back.
+        (
+            0x10,
+            LATITUDES,
+            b"\x00\x00\x00\x00\x00\x00\x24\x40\
+\x00\x00\x00\x00\x00\x00\x26\x40\
+\x00\x00\x00\x00\x00\x00\x26\x40\
+\x00\x00\x00\x00\x00\x00\x24\x40",
+        ),
+        // From 10 degrees westward to 11 there are 359 degrees.
+        (
+            0x80,
+            LATITUDES,
+            b"\x00\x00\x00\x00\x00\x00\x24\x40\
+\x00\x00\x00\x00\x00\xd0\x75\xc0\
+\x00\x00\x00\x00\x00\x00\x24\x40\
+\x00\x00\x00\x00\x00\xd0\x75\xc0",
+        ),
+    ] {
+        let octets = edited(rt.alloc(), &PLAIN, &[(109, scanning)])?;
+        let expected = coordinates(rt.alloc(), "(2, 2)", latitudes, longitudes)?;
+        assert!(rt;
+            gives(
+                rt.alloc(),
+                "coordinates",
+                octets.as_slice(),
+                expected.as_slice()
+            )?
+        );
+    }
+    Ok(())
+}
+
+#[test]
+fn places_are_the_nearest_numbers(rt: HostRuntime) -> Result<(), Fail> {
+    // Four rows of one point, from 50 to 49 degrees.
+    let octets = edited(rt.alloc(), &PLAIN, &[(71, 1), (75, 4)])?;
+    let thirds = b"\x00\x00\x00\x00\x00\x00\x49\x40\
+\x55\x55\x55\x55\x55\xd5\x48\x40\
+\xab\xaa\xaa\xaa\xaa\xaa\x48\x40\
+\x00\x00\x00\x00\x00\x80\x48\x40";
+    let ten = b"\x00\x00\x00\x00\x00\x00\x24\x40\
+\x00\x00\x00\x00\x00\x00\x24\x40\
+\x00\x00\x00\x00\x00\x00\x24\x40\
+\x00\x00\x00\x00\x00\x00\x24\x40";
+    let expected = coordinates(rt.alloc(), "(4, 1)", thirds, ten)?;
+    assert!(rt;
+        gives(
+            rt.alloc(),
+            "coordinates",
+            octets.as_slice(),
+            expected.as_slice()
+        )?
+    );
+    Ok(())
+}
+
+#[test]
+fn where_no_places_are_told(rt: HostRuntime) -> Result<(), Fail> {
+    let field = 1;
+    let rotated = on_template(rt.alloc(), 1, 84, 72, false)?;
+    let angled = edited(rt.alloc(), &PLAIN, &[(79, 1)])?;
+    let reserved = edited(rt.alloc(), &PLAIN, &[(109, 0x08)])?;
+    let kind = Cause::GridKind { field };
+    let mode = Cause::ScanMode { field };
+    for (octets, cause, text) in [
+        (FIRST_EDITION, Cause::EditionOne, "EditionOne"),
+        (rotated.as_slice(), kind, "GridKind field 1"),
+        (angled.as_slice(), kind, "GridKind field 1"),
+        (reserved.as_slice(), mode, "ScanMode field 1"),
+    ] {
+        for words in ["coordinates", "dump place=yes", "dump place=yes decimals=2"] {
+            let ran = run_over(rt.alloc(), words, octets, 50, CALM)?;
+            let outcome = Outcome::Kept(Kept { message: 1, cause });
+            let note = format!(in rt.alloc(); "kept message 1 {text}\n")?;
+            assert!(rt; ran.is(outcome, "", note.as_str()));
+        }
+        let mut more = octets.to_vec(rt.alloc())?;
+        more.extend_from_slice(&PLAIN)?;
+        let one = coordinates(rt.alloc(), "(2, 2)", LATITUDES, LONGITUDES)?;
+        let passed = run_over(
+            rt.alloc(),
+            "coordinates kept=pass",
+            more.as_slice(),
+            50,
+            CALM,
+        )?;
+        let notes = format!(in rt.alloc(); "kept message 1 at 0 {text}\nrefused 0 kept 1\n")?;
+        let outcome = Outcome::Passed {
+            refused: 0,
+            kept: 1,
+        };
+        assert!(rt; passed.gave(outcome, one.as_slice(), notes.as_str()));
+    }
+    Ok(())
+}
+
+#[test]
+fn each_write_of_places_may_fail(rt: HostRuntime) -> Result<(), Fail> {
+    let whole = coordinates(rt.alloc(), "(2, 2)", LATITUDES, LONGITUDES)?;
+    for (output, from) in [(1, 0), (2, 50), (4, 150), (6, 250)] {
+        let failing = Failing { output, ..CALM };
+        let ran = run_over(rt.alloc(), "coordinates", &PLAIN, 50, failing)?;
+        let front = between(whole.as_slice(), 0, from);
+        assert!(rt; ran.gave(Outcome::WriteFault, front, ""));
     }
     Ok(())
 }

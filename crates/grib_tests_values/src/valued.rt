@@ -265,3 +265,75 @@ fn values_of_a_large_field_are_its_numbers(rt: HostRuntime) -> Result<(), Fail> 
     assert!(rt; scaled.as_slice() == valued.as_slice());
     Ok(())
 }
+
+#[test]
+fn points_have_their_places_where_they_are_asked_for(rt: HostRuntime) -> Result<(), Fail> {
+    for (words, lines) in [
+        (
+            "dump place=yes",
+            "1 50.000000 10.000000 0\n2 50.000000 11.000000 1\n3 49.000000 10.000000 2\n4 49.000000 11.000000 255\n",
+        ),
+        (
+            "dump place=yes decimals=3",
+            "1 50.000000 10.000000 -11.862\n2 50.000000 11.000000 -11.850\n3 49.000000 10.000000 -11.838\n4 49.000000 11.000000 -8.675\n",
+        ),
+        (
+            "dump decimals=0 kept=pass place=yes profile=open",
+            "1 50.000000 10.000000 -12\n2 50.000000 11.000000 -12\n3 49.000000 10.000000 -12\n4 49.000000 11.000000 -9\n",
+        ),
+    ] {
+        for piece in [1, 7, 183] {
+            let dumped = run_over(rt.alloc(), words, &PLAIN, piece, CALM)?;
+            assert!(rt; wrote(&dumped, &[LISTED, REFERENCE, lines]));
+        }
+    }
+    Ok(())
+}
+
+#[test]
+fn places_are_rounded_to_six_decimals(rt: HostRuntime) -> Result<(), Fail> {
+    // Rows and columns in thirds: Ni or Nj is 4, La1 or Lo1 is 1, 10^-6 degree, and the last is 0 or one to the west.
+    let rows = edited(
+        rt.alloc(),
+        &PLAIN,
+        &[
+            (71, 1),
+            (75, 4),
+            (84, 0x80),
+            (85, 0),
+            (86, 0),
+            (87, 1),
+            (93, 0),
+            (94, 0),
+            (95, 0),
+            (96, 0),
+        ],
+    )?;
+    let lines =
+        "1 -0.000001 10.000000 0\n2 -0.000001 10.000000 1\n3 0.000000 10.000000 2\n4 0.000000 10.000000 255\n";
+    let dumped = run_over(rt.alloc(), "dump place=yes", rows.as_slice(), 50, CALM)?;
+    assert!(rt; wrote(&dumped, &[LISTED, REFERENCE, lines]));
+    // Westward from 0.000002 degrees to 0.
+    let columns = edited(
+        rt.alloc(),
+        &PLAIN,
+        &[
+            (71, 4),
+            (75, 1),
+            (88, 0),
+            (89, 0),
+            (90, 0),
+            (91, 2),
+            (97, 0),
+            (98, 0),
+            (99, 0),
+            (100, 0),
+            (109, 0x80),
+        ],
+    )?;
+    let lines =
+        "1 50.000000 0.000002 0\n2 50.000000 0.000001 1\n3 50.000000 0.000001 2\n4 50.000000 0.000000 255\n";
+    let dumped = run_over(rt.alloc(), "dump place=yes", columns.as_slice(), 50, CALM)?;
+    assert!(rt; wrote(&dumped, &[LISTED, REFERENCE, lines]));
+    Ok(())
+}

@@ -3,6 +3,7 @@
 use grib_command::{Job, Page};
 use grib_dates::Dates;
 use grib_keys::{Key, Value};
+use grib_rescan::Bounds;
 use grib_text::{Column, LineForm};
 use grib_words::{JobFault, job_of};
 use grib1_sections::Key1;
@@ -35,6 +36,7 @@ fn command_of(asked: &Result<Job, JobFault>) -> &'static str {
         Ok(Job::Stats) => "stats",
         Ok(Job::Dump { .. }) => "dump",
         Ok(Job::Values(_)) => "values",
+        Ok(Job::Coordinates) => "coordinates",
         Ok(Job::Filter(_) | Job::Filter1(_) | Job::FilterNamed { .. }) => "filter",
         Ok(Job::Split { .. }) => "split",
         Ok(Job::Set { .. } | Job::Set1 { .. }) => "set",
@@ -42,7 +44,7 @@ fn command_of(asked: &Result<Job, JobFault>) -> &'static str {
         Ok(Job::Migrate { .. }) => "migrate",
         Ok(Job::Demote { .. }) => "demote",
         Ok(Job::Rescan) => "rescan",
-        Ok(Job::Crop(_)) => "crop",
+        Ok(Job::Crop(_) | Job::Within(_)) => "crop",
         Ok(Job::Make { .. }) => "make",
         Ok(Job::Print(Page::Help)) => "help",
         Ok(Job::Print(Page::Version)) => "version",
@@ -391,7 +393,7 @@ const UNREAD_PAST: [(u64, &str); 19] = [
 
 // Lines with keys of edition 1, names of parameters, columns and dates that are read. One list of all lines is more than a
 // check has memory for.
-const MORE_READ: [&str; 40] = [
+const MORE_READ: [&str; 54] = [
     // A line of `list` may have columns, of both editions, and the name of the parameter.
     "list with=centre",
     "list with=Centre",
@@ -438,10 +440,27 @@ const MORE_READ: [&str; 40] = [
     "split editions=both out=p kept=copy",
     "split profile=open editions=both out=both",
     "split out=editions=both",
+    // `dump` may have places, and `coordinates` has nothing else.
+    "dump place=yes",
+    "dump place=yes decimals=18 kept=pass",
+    "coordinates",
+    "coordinates kept=pass profile=open refused=pass",
+    // `crop` takes a box in degrees, with up to six decimals.
+    "crop north=90 south=-90 west=-360 east=360",
+    "crop east=-0.000001 west=-0.5 north=60.5 south=60.5",
+    "crop west=350 east=10 south=0 north=0.000001",
+    "crop west=10 east=-10 south=-0 north=90.000000",
+    "crop kept=pass north=1 south=1 refused=copy west=0 east=0",
+    // It takes a place.
+    "crop lat=52.5 lon=13.4",
+    "crop lon=-360 lat=-90",
+    "crop lon=360.000000 lat=90.0",
+    "crop lat=0.1 profile=open lon=0",
+    "crop lat=-0 lon=-0",
 ];
 
 // Lines with such arguments that are not, with the place of the first word that is not read.
-const MORE_UNREAD: [(u64, &str); 71] = [
+const MORE_UNREAD: [(u64, &str); 103] = [
     // Each column has a name.
     (1, "list with"),
     (1, "list with="),
@@ -519,7 +538,90 @@ const MORE_UNREAD: [(u64, &str); 71] = [
     (2, "split editions=both"),
     (3, "split out=p editions=both editions=both"),
     (2, "split out=p editions="),
+    // `dump` has places or not, `values` never, and `coordinates` takes nothing.
+    (1, "dump place=no"),
+    (1, "dump place"),
+    (2, "dump place=yes place=yes"),
+    (1, "values place=yes"),
+    (1, "coordinates as=f4"),
+    (1, "coordinates kept=copy"),
+    // A box in degrees has four edges, from the south to the north.
+    (4, "crop north=1 south=0 west=0"),
+    (4, "crop north=1 south=0 east=0"),
+    (4, "crop north=1 west=0 east=0"),
+    (4, "crop south=1 west=0 east=0"),
+    (5, "crop north=0 south=0.000001 west=0 east=0"),
+    (5, "crop north=-1 south=1 west=0 east=0"),
+    (2, "crop north=1 north=1 south=0 west=0 east=0"),
+    // Degrees are numbers with up to six decimals, within their bounds.
+    (1, "crop north=90.000001"),
+    (1, "crop south=-90.000001"),
+    (1, "crop lat=91"),
+    (1, "crop west=360.000001"),
+    (1, "crop east=-361"),
+    (1, "crop lon=400"),
+    (1, "crop lat=1.2345678"),
+    (1, "crop lat=1."),
+    (1, "crop lat=.5"),
+    (1, "crop lat=+1"),
+    (1, "crop lat=01"),
+    (1, "crop lat=1e1"),
+    (1, "crop lon=13,4"),
+    (1, "crop lon=--1"),
+    (1, "crop lon="),
+    // There is one box, or one place.
+    (2, "crop lat=1"),
+    (2, "crop lon=1"),
+    (4, "crop lat=1 lon=1 i0=0"),
+    (6, "crop north=1 south=0 west=0 east=0 lon=1"),
 ];
+
+// Lines that crop by degrees, with what they ask for.
+const CROPPED: [(&str, Bounds); 3] = [
+    (
+        "crop north=60.5 south=-0.25 west=-10 east=20.000001",
+        Bounds::Box {
+            north: 60_500_000,
+            south: -250_000,
+            west: -10_000_000,
+            east: 20_000_001,
+        },
+    ),
+    (
+        "crop east=0 west=360 south=-90 north=-90",
+        Bounds::Box {
+            north: -90_000_000,
+            south: -90_000_000,
+            west: 360_000_000,
+            east: 0,
+        },
+    ),
+    (
+        "crop lon=-0.1 lat=51.47",
+        Bounds::Nearest {
+            latitude: 51_470_000,
+            longitude: -100_000,
+        },
+    ),
+];
+
+#[test]
+fn degrees_are_read(rt: HostRuntime) -> Result<(), Fail> {
+    for (line, bounds) in CROPPED {
+        let job = asked(rt.alloc(), line)?;
+        assert!(rt; matches!(&job, Ok(Job::Within(read)) if *read == bounds));
+    }
+    Ok(())
+}
+
+#[test]
+fn places_of_points_are_asked_for(rt: HostRuntime) -> Result<(), Fail> {
+    for (line, asks) in [("dump", false), ("dump place=yes", true)] {
+        let job = asked(rt.alloc(), line)?;
+        assert!(rt; matches!(&job, Ok(Job::Dump { decimals: None, placed }) if *placed == asks));
+    }
+    Ok(())
+}
 
 // How many columns these lines have, whether they have a table of names, and which form.
 fn lines_of(asked: &Result<Job, JobFault>) -> Option<(LineForm, usize, bool)> {

@@ -1,24 +1,25 @@
 //! The texts on commands, keys, refusals and causes. Each begins with the name that it is on.
 
 /// What each command does, behind its words.
-pub(crate) const COMMANDS: [&str; 17] = [
+pub(crate) const COMMANDS: [&str; 18] = [
     "check [refused=pass] [profile=open]: A line for each message, with its place, edition, octets and fields, and a line on the input.\n",
     "list [with=COLUMNS] [names=FILE] [refused=pass] [profile=open]: A line for each field. With with= the line goes on with COLUMN=VALUE for each of these columns.\nCOLUMNS is a list with commas of keys of either edition, at (octets of the input before the message) and octets (of the message). The value is - where the field has no such key.\nWith names= the line ends with name=NAME where the table has a record discipline,category,number,name for the parameter of the field.\nExample: grib list with=year,month,day,hour,octets < FILE\n",
     "keys [show=COLUMNS] [names=FILE] [refused=pass] [profile=open]: For each field every key that it has, with its value, as filter takes it; of a message of edition 1 the numbers of Section 1. With show= a line for each field with its number and the values of these columns, for COLUMNS and names= see: grib help list.\n",
-    "dump [decimals=0..18] [refused=pass] [kept=pass] [profile=open]: For each field its list line, a line with R, E and D, and a line for each grid point with its scaled integer X: the value is (R + X * 2^E) / 10^D. With decimals= the value itself, rounded half to even to so many places.\n",
+    "dump [decimals=0..18] [place=yes] [refused=pass] [kept=pass] [profile=open]: For each field its list line, a line with R, E and D, and a line for each grid point with its scaled integer X: the value is (R + X * 2^E) / 10^D. With decimals= the value itself, rounded half to even to so many places. With place=yes the latitude and the longitude of the point stand after its number, in degrees with six decimals.\n",
     "values [as=f8|f4] [refused=pass] [kept=pass] [profile=open]: For each field an array in the form .npy of NumPy: the value of each grid point as the nearest number of 8 octets (f8, also without as=) or of 4 (f4), and a missing value as NaN.\n",
+    "coordinates [refused=pass] [kept=pass] [profile=open]: For each field two arrays in the form .npy of NumPy: the latitude of each grid point in degrees, and then the longitude of each, as the nearest numbers of 8 octets, for grids of template 3.0.\n",
     "stats [refused=pass] [profile=open]: For each field the number of points with and without a value, the smallest and the largest scaled integer with the first grid point of each, and the line with R, E and D.\n",
     "filter KEY=VALUES .. KEY!=VALUES .. [name=NAMES names=FILE] [refused=copy|pass] [kept=copy|pass] [profile=open]: The fields that have these values, copied octet for octet.\nVALUES is a value, a list as 1,2 or a range as 0..24. A value is a whole number, as 98, 0 or -5, or missing.\nWith keys of edition 1 by themselves, as Centre=98: the messages of edition 1 that have these values.\nWith name= and names=: the fields whose parameter has one of these names, as TMP,HGT, by the table of records discipline,category,number,name.\nAll keys: grib help keys. The values that the fields of a file have: grib keys < FILE\nExample: grib filter surface1=100 surface1Scale=0 surface1Value=50000 < FILE > level500\n",
     "set KEY=VALUE .. [dates=valid] [refused=copy|pass] [kept=copy|pass] [profile=open]: Each message with new values of these keys, all other octets copied. The keys are of one edition, and so are the messages that it changes. With dates=valid no message gets a reference time that is no date and time, as 30 February.\n",
     "split out=NAME [editions=both] [refused=copy|pass] [kept=copy|pass] [profile=open]: The n-th field of the input becomes the file NAME.n; nothing goes to standard output. With editions=both messages of edition 1 become files too, as they are.\n",
     "repack to=0|2|3|42|least [order=1|2] [refused=copy|pass] [kept=copy|pass] [profile=open]: Each message in simple packing (to=0), complex packing (to=2), complex packing with spatial differencing (to=3 with order=1 or order=2) or CCSDS packing (to=42 with profile=open), or each field in the smallest of these, or as it is (to=least). Every value and every missing value is preserved.\n",
     "rescan [refused=copy|pass] [kept=copy|pass] [profile=open]: Each message with its points from west to east and from north to south, on regular latitude/longitude grids.\n",
-    "crop i0=N i1=N j0=N j1=N [refused=copy|pass] [kept=copy|pass] [profile=open]: The grid columns i0 to i1 and the rows j0 to j1 of each message on such a grid in that order, counted from 0.\n",
+    "crop i0=N i1=N j0=N j1=N [refused=copy|pass] [kept=copy|pass] [profile=open]: The grid columns i0 to i1 and the rows j0 to j1 of each message on such a grid in that order, counted from 0.\nWith north=D south=D west=D east=D in their place: the grid points in this box, in degrees with up to six decimals, eastward from west; on a grid that goes round the Earth across its first column too. With lat=D lon=D: the grid point nearest to this place.\nExample: grib crop north=60 south=45 west=-10 east=20 < FILE > FILE2\n",
     "migrate params=FILE [surfaces=FILE] [local=keep|ecmwf] [refused=copy|pass] [kept=copy|pass] [profile=open]: Each message of edition 1 as one of edition 2 with the same values, by a parameter table; messages of edition 2 are copied. With surfaces= a second table gives parameters and fixed surfaces whose name says a level. With local=keep the local part of Section 1 becomes Section 2, with local=ecmwf the labels of ECMWF as edition 2 has them.\n",
     "demote params=FILE [local=keep] [earth=any] [tables=any] [refused=copy|pass] [kept=copy|pass] [profile=open]: Each field of edition 2 as a message of edition 1 with the same values, by a parameter table; messages of edition 1 are copied. With local=keep Section 2 becomes the local part of Section 1, with earth=any the shape of the Earth may be dropped, with tables=any the versions of the tables do not matter.\n",
     "make seed=N ni=N nj=N to=0|2|3 [order=1|2]: A synthetic message, generated from the seed, for testing; reads no input.\n",
     "help [WORDS ..]: A line on each command. With words: what grib would make of them, and where it would not read them, why not. With the name of a command, key, refusal or cause: what it is. Pages: grib help keys, refusals, causes, commands.\n",
-    "version takes no word: the version of the program; reads no input.\n",
+    "version takes no argument: the version of the program; reads no input.\n",
 ];
 
 /// Where each key stands in a message of edition 2, and what it says; code tables in parentheses.
@@ -149,7 +150,7 @@ pub(crate) const REFUSALS: [&str; 39] = [
 /// Why a message that is accepted is not changed or printed as asked.
 pub(crate) const CAUSES: [&str; 18] = [
     "causes are what stands in a line kept message <m> <cause>:\n",
-    "EditionOne          kept by filter and set with keys of edition 2, split without editions=both, repack, rescan and crop: the message is of edition 1; migrate it first\n",
+    "EditionOne          kept by filter and set with keys of edition 2, split without editions=both, repack, rescan, crop, coordinates and dump place=yes: the message is of edition 1; migrate it first\n",
     "EditionTwo          kept by set with keys of edition 1: the message is of edition 2; set keys of edition 2\n",
     "Packing             kept with profile=open by dump, values, stats, repack, rescan, crop and demote: the values of the field cannot be read, since its packing, 5.<template>, is not supported; kept=copy copies the message\n",
     "KeyRange            kept by set: the value does not fit the key, as month=256, or is missing for a key that is never missing\n",
@@ -159,9 +160,9 @@ pub(crate) const CAUSES: [&str; 18] = [
     "SecondaryMissing    kept by repack: simple packing has no secondary missing values; to=2 or to=3\n",
     "DifferenceRange     kept by repack, rescan and crop: the differences do not fit 32 bits; to=2 or to=0\n",
     "OutputTooLong       kept by repack, rescan and crop: the message would have more than 268,435,456 octets\n",
-    "GridKind            kept by rescan and crop: the grid is not of template 3.0, is opaque, or its rows differ in length\n",
-    "ScanMode            kept by rescan: a reserved bit of the scanning mode is set; by crop: the scanning mode is not 0, so rescan first\n",
-    "OutsideBox          kept by crop: i1 or j1 is beyond the last column or row\n",
+    "GridKind            kept by rescan, crop, coordinates and dump place=yes: the grid is not of template 3.0, is opaque, or its rows differ in length; by the last two also if its basic angle is not 0\n",
+    "ScanMode            kept by rescan, coordinates and dump place=yes: a reserved bit of the scanning mode is set; by crop: the scanning mode is not 0, so rescan first\n",
+    "OutsideBox          kept by crop: i1 or j1 is beyond the last column or row, or no grid point is in the box in degrees, or the box goes across the ends of a grid that does not go round the Earth\n",
     "Increments          kept by crop: an increment is missing, the basic angle is not 0, or the last grid point is not where they lead\n",
     "DecimalRange        kept by dump decimals=: the value is too large to be printed with so many places; fewer places, or dump without decimals=\n",
     "Loss                kept by migrate: edition 2 cannot express something, which the name behind it tells\n",

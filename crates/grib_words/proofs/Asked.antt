@@ -25,6 +25,8 @@ use Rattle.grib_text.specs.declared.column.LineForm.TheVariants as forms
 use Rattle.grib_text.specs.declared.column.Column.{Column}
 use Rattle.grib_synthetic.specs.Made.{MayBeMade}
 use Rattle.grib_repack.specs.declared.target.RepackTarget.{RepackTarget}
+use Rattle.grib_rescan.specs.declared.points.Area.{Area}
+use Rattle.grib_rescan.specs.declared.bounds.Bounds.{Bounds}
 use Rattle.grib_repack.specs.declared.target.RepackTarget.TheVariants.{Simple, Complex, Spatial}
 use Rattle.grib_base.specs.declared.profile.Profile.{Profile}
 use Rattle.grib_command.specs.declared.job.Job.{Job}
@@ -35,10 +37,11 @@ use Rattle.grib_words.specs.declared.command.Command.{Command}
 use Rattle.grib_words.specs.declared.command.Command.TheVariants as the
 use Rattle.grib_words.specs.declared.command.Command.TheVariants.{Dump, Filter, Split, Set, Repack, Migrate, Demote, Crop, Make}
 use Rattle.grib_words.specs.Columns.{columns_in, names_in}
-use Rattle.grib_words.specs.Values.{number, is_number, is_between, signed_number, key_value}
-use Rattle.grib_words.specs.Reading.{is, is_equals, has_equals, name_in, value_in, is_key_to_set, is_key_value, is_key1_to_set, is_key1_value, is_instead, is_mixed, has_first, entries, takes, is_named, has_name, has_word, may_repeat, is_read, read_count, has_target, is_side, in_order, has_sides, number_if_given, value_if_given, is_complete, command_named, reading_of, reading, value_of, number_of}
+use Rattle.grib_numbers.specs.Numbers.{number, is_number, is_between, signed_number}
+use Rattle.grib_words.specs.Values.{key_value}
+use Rattle.grib_words.specs.Reading.{is, is_equals, has_equals, name_in, value_in, is_key_to_set, is_key_value, is_key1_to_set, is_key1_value, is_instead, is_mixed, has_first, entries, takes, is_named, has_name, has_word, may_repeat, is_read, read_count, has_target, is_side, in_order, has_sides, has_box, has_edges, has_a_side, has_an_edge, number_if_given, value_if_given, is_complete, command_named, reading_of, reading, value_of, number_of}
 use Rattle.grib_words.proofs.Single.{named, named1}
-use Rattle.grib_words.specs.Words.{SidesStand, profile_of, target_of, usual_blocks, change, changes_of, change1, changes1_of, conditions_of, conditions1_of, list_of, keys_of, filter_of, dates_of, set_of, job_of_command, job_of_reading, IsUnlessMemory, IsAsked}
+use Rattle.grib_words.specs.Words.{SidesStand, profile_of, target_of, usual_blocks, area_of, nearest_of, edges_of, change, changes_of, change1, changes1_of, conditions_of, conditions1_of, list_of, keys_of, filter_of, dates_of, set_of, job_of_command, job_of_reading, IsUnlessMemory, IsAsked}
 
 -- the key of a change can be set
 abbrev CanBeSet : Change → Type 0
@@ -323,9 +326,18 @@ pub record BoxStands (words : List (List ℕ)) : Type 0 where
 at_most : (m n : ℕ) → nat_le m n ≡ true → m ≤ n
 at_most m n h = search (rules, tests, h)
 
-pub crop_stands : (words : List (List ℕ)) → HasRead Crop words → BoxStands words
-crop_stands words read =
-    let parts = both (has_sides words) (in_order (codes "i0") (codes "i1") words && in_order (codes "j0") (codes "j1") words) read.complete in
+-- a box by columns and rows is asked for where no place and no box in degrees is
+box_there : (place degrees : Bool) (of_place of_degrees box alone : Bool) → cond place of_place (cond degrees of_degrees (box && alone)) ≡ true → place ≡ false → degrees ≡ false
+    → box ≡ true
+box_there place degrees of_place of_degrees box alone h no_place no_degrees = (both box alone (rw (no_place, no_degrees) at h)).0
+
+pub crop_stands : (words : List (List ℕ)) → HasRead Crop words → has_name (codes "lat") words ≡ false → has_name (codes "north") words ≡ false → BoxStands words
+crop_stands words read no_place no_degrees =
+    let box =
+    box_there (has_name (codes "lat") words) (has_name (codes "north") words) (has_name (codes "lon") words && not (has_a_side words || has_an_edge words))
+    (has_edges words && not (has_name (codes "lon") words || has_a_side words)) (has_box words) (not (has_name (codes "lon") words || has_an_edge words)) read.complete no_place
+    no_degrees in
+    let parts = both (has_sides words) (in_order (codes "i0") (codes "i1") words && in_order (codes "j0") (codes "j1") words) box in
     let orders = both (in_order (codes "i0") (codes "i1") words) (in_order (codes "j0") (codes "j1") words) parts.1 in
     record {
       sides = sides_of words read.all parts.0;
@@ -483,9 +495,9 @@ size_is words stands =
     let nj = between 1 4096 (value_of (codes "nj") words) stands.nj in
     record { seed_fits = omega arith; some_columns = ni.low; few_columns = ni.high; some_rows = nj.low; few_rows = nj.high }
 
-places : (given : Option ℕ) → IfSome given (λ n. n ≤ 18) → HasPlaces (jobs.Dump given)
-places None few = tt
-places (Some n) few = few
+places : (given : Option ℕ) (placed : Bool) → IfSome given (λ n. n ≤ 18) → HasPlaces (jobs.Dump given placed)
+places None placed few = tt
+places (Some n) placed few = few
 
 repack_job : (least : Bool) (profile : Profile) (target : RepackTarget) → (least ≡ false → is_target target ≡ true) → IsJob (cond least (jobs.RepackLeast profile) (jobs.Repack target))
 repack_job true profile target stands = record { target_stands = refl; size_stands = tt; changes_stand = no_changes; changes1_stand = no_changes1; places_stand = tt; area_stands = tt }
@@ -520,6 +532,12 @@ set_job changes dates can = record { target_stands = refl; size_stands = tt; cha
 set1_job : (changes : List Change1) (dates : Dates) → All CanBeSet1 changes → IsJob (jobs.Set1 changes dates)
 set1_job changes dates can = record { target_stands = refl; size_stands = tt; changes_stand = no_changes; changes1_stand = can; places_stand = tt; area_stands = tt }
 
+crop_job : (place degrees : Bool) (nearest edges : Bounds) (area : Area) → (place ≡ false → degrees ≡ false → (area.i0 ≤ area.i1) × (area.j0 ≤ area.j1))
+    → IsJob (cond place (jobs.Within nearest) (cond degrees (jobs.Within edges) (jobs.Crop area)))
+crop_job true degrees nearest edges area stands = record { target_stands = refl; size_stands = tt; changes_stand = no_changes; changes1_stand = no_changes1; places_stand = tt; area_stands = tt }
+crop_job false true nearest edges area stands = record { target_stands = refl; size_stands = tt; changes_stand = no_changes; changes1_stand = no_changes1; places_stand = tt; area_stands = tt }
+crop_job false false nearest edges area stands = record { target_stands = refl; size_stands = tt; changes_stand = no_changes; changes1_stand = no_changes1; places_stand = tt; area_stands = stands refl refl }
+
 pub is_job : (command : Command) (words : List (List ℕ)) → HasRead command words → IfOk (job_of_command command words) IsJob
 is_job the.Check words read = record { target_stands = refl; size_stands = tt; changes_stand = no_changes; changes1_stand = no_changes1; places_stand = tt; area_stands = tt }
 is_job the.List words read =
@@ -530,10 +548,11 @@ is_job Dump words read = record {
   size_stands = tt;
   changes_stand = no_changes;
   changes1_stand = no_changes1;
-  places_stand = places (number_if_given (codes "decimals") words) (decimals_few words read);
+  places_stand = places (number_if_given (codes "decimals") words) (has_name (codes "place") words) (decimals_few words read);
   area_stands = tt;
 }
 is_job the.Values words read = record { target_stands = refl; size_stands = tt; changes_stand = no_changes; changes1_stand = no_changes1; places_stand = tt; area_stands = tt }
+is_job the.Coordinates words read = record { target_stands = refl; size_stands = tt; changes_stand = no_changes; changes1_stand = no_changes1; places_stand = tt; area_stands = tt }
 is_job the.Keys words read =
     one_of (has_name (codes "show") words) _ _
     (lines_job forms.Show (columns_in (value_of (codes "show") words)) (value_if_given (codes "names") words))
@@ -541,8 +560,8 @@ is_job the.Keys words read =
 is_job the.Stats words read = record { target_stands = refl; size_stands = tt; changes_stand = no_changes; changes1_stand = no_changes1; places_stand = tt; area_stands = tt }
 is_job the.Rescan words read = record { target_stands = refl; size_stands = tt; changes_stand = no_changes; changes1_stand = no_changes1; places_stand = tt; area_stands = tt }
 is_job Crop words read =
-    let box = crop_stands words read in
-    record { target_stands = refl; size_stands = tt; changes_stand = no_changes; changes1_stand = no_changes1; places_stand = tt; area_stands = (box.columns, box.rows) }
+    crop_job (has_name (codes "lat") words) (has_name (codes "north") words) (nearest_of words) (edges_of words) (area_of words)
+    (λ no_place no_degrees. let box = crop_stands words read no_place no_degrees in (box.columns, box.rows))
 is_job Filter words read =
     one_of (has_name (codes "name") words) _ _
     (named_job (conditions_of words) (value_of (codes "names") words) (names_in (value_of (codes "name") words)))

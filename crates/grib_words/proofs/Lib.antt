@@ -1,4 +1,3 @@
-mod Numbers
 pub mod Parts
 mod Counts
 pub mod Asked

@@ -9,21 +9,15 @@ use Rattle.grib_keys.specs.Keys.{key_named}
 use Rattle.grib_words.specs.declared.command.Command.{Command}
 use Rattle.grib1_sections.specs.declared.key.Key1.{Key1}
 use Rattle.grib1_sections.specs.Keys.{key1_named}
-use Rattle.grib_words.specs.Values.{signed_number, key_value}
+use Rattle.grib_numbers.specs.Numbers.{signed_number}
+use Rattle.grib_numbers.proofs.Places.{no_place}
+use Rattle.grib_words.specs.Values.{key_value}
 use Rattle.grib_words.specs.Reading.{is_equals, has_equals, name_in, value_in, is_named, is_on_key, is_asking, is_other, is_of_first, is_read, asked_key, asked_key1, is_marked}
 use Rattle.grib_words.specs.Words.{change, change_of, change1, change1_of, wanted, wanted_of, wanted1, wanted1_of}
 
 pub list_any-map : {X Y : Type 0} (p : Y → Bool) (f : X → Y) (xs : List X) → list_any p (map f xs) ≡ list_any (λ x. p (f x)) xs
 list_any-map p f [] = refl
 list_any-map p f (x ∷ xs) = ap (λ b. p (f x) || b) (list_any-map p f xs)
-
-at_first : (b : Bool) (n len : ℕ) (later : Bool) → cond (not b) (1 + n) 0 ≡ 1 + len → (n ≡ len → later ≡ false) → (b || later) ≡ false
-at_first true n len later e next = absurd (omega (arith, e))
-at_first false n len later e next = next (omega (arith, e))
-
-pub no_place : (p : ℕ → Bool) (xs : List ℕ) → position_or_len p xs ≡ length xs → list_any p xs ≡ false
-no_place p [] e = refl
-no_place p (x ∷ xs) e = at_first (p x) (position_or_len p xs) (length xs) (list_any p xs) (omega (arith, e)) (no_place p xs)
 
 -- a word whose first `=` is at its end has none
 pub lacks_equals : (word : List ℕ) → position_or_len is_equals word ≡ length word → has_equals word ≡ false

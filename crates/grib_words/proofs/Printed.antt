@@ -17,7 +17,8 @@ use Rattle.grib_keys.specs.declared.condition.Value.{Value}
 use Rattle.grib_keys.specs.declared.condition.Value.TheVariants.{Number, Missing}
 use Rattle.grib_keys.specs.Keys.{name_of, key_named}
 use Rattle.grib_keys.specs.Words.{value_text, word_of}
-use Rattle.grib_words.specs.Values.{number, begins_from_one, is_number, is_between, from_zero, below_zero, key_value}
+use Rattle.grib_numbers.specs.Numbers.{number, begins_from_one, is_number, is_between, from_zero, below_zero}
+use Rattle.grib_words.specs.Values.{key_value}
 use Rattle.grib_words.specs.Reading.{name_in, value_in}
 use Rattle.grib_words.specs.Words.{change, change_of, test_of, wanted, wanted_of, conditions_of}
 use Rattle.grib_words.proofs.Single.{asks_the_value}
@@ -28,7 +29,7 @@ use Rattle.grib_keys.proofs.Chosen.{same_decides}
 use Rattle.grib_select.proofs.Bounded.{values_within}
 use Rattle.grib2_message.specs.Fields.{field_count}
 use Rattle.grib2_message.specs.Message.{IsAnyMessage}
-use Rattle.grib_words.proofs.Numbers.{own}
+use Rattle.grib_numbers.proofs.Parsed.{own}
 
 -- ---- a printed number is a number
 

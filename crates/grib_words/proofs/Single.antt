@@ -20,7 +20,8 @@ use Rattle.grib1_sections.specs.declared.key.Key1.{Key1}
 use Rattle.grib1_sections.specs.declared.key.Key1.TheVariants.{Version}
 use Rattle.grib1_sections.specs.Keys.{name1_of, keys1, key1_named}
 use Rattle.grib1_select.specs.declared.condition.Change1.{Change1}
-use Rattle.grib_words.specs.Values.{is_number, is_between, begins_from_one, from_zero, below_zero, signed_number, key_value}
+use Rattle.grib_numbers.specs.Numbers.{is_number, is_between, begins_from_one, from_zero, below_zero, signed_number}
+use Rattle.grib_words.specs.Values.{key_value}
 use Rattle.grib_words.specs.Choices.{is_dot, choice_of, elements, choices_of}
 use Rattle.grib_words.specs.Reading.{name_in, value_in, is_marked, unmarked, asked_key, asked_key1}
 use Rattle.grib_words.specs.Words.{change, change_of, change1, change1_of, wanted, wanted_of, wanted1, wanted1_of}

@@ -4,7 +4,8 @@ use Rattle.std.specs.List.{list_any, list_all, filter_map, before_first, after_f
 use Rattle.std.specs.Option.{option_and_then}
 use Rattle.grib_keys.specs.declared.wanted.Choice.{Choice}
 use Rattle.grib_keys.specs.declared.wanted.Choice.TheVariants.{One, Between, From, UpTo}
-use Rattle.grib_words.specs.Values.{signed_number, key_value}
+use Rattle.grib_numbers.specs.Numbers.{signed_number}
+use Rattle.grib_words.specs.Values.{key_value}
 
 -- from one number to another that is not below it
 abbrev pub between : ℤ → ℤ → Option Choice

@@ -1,6 +1,6 @@
 -- How the words of a command line are read. Word 0 is the command; each later word is `name=value`, split
 -- at its first `=`. Each command has its names, each name the rule of its value.
-use Rattle.std.specs.Prelude.{ℕ, Bool, true, false, cond, not, ◌&&◌, ◌||◌, ◌==◌, nat_le, ◌+◌, ◌-◌, Option, Some, None, is_some, List, [], ◌∷◌, ◌++◌, length, get_or, take, codes, Result, Ok, Err}
+use Rattle.std.specs.Prelude.{ℕ, Bool, true, false, cond, not, ◌&&◌, ◌||◌, ◌==◌, nat_le, int_le, ◌+◌, ◌-◌, ℤ, pos, neg_ℤ, unwrap_or, Option, Some, None, is_some, List, [], ◌∷◌, ◌++◌, length, get_or, take, codes, Result, Ok, Err}
 use Rattle.std.specs.List.{find, list_any, before_first, after_first}
 use Rattle.std.specs.Option.{option_map_or}
 use Rattle.std.specs.Str.{bytes_eq}
@@ -10,10 +10,12 @@ use Rattle.grib1_sections.specs.declared.key.Key1.{Key1}
 use Rattle.grib1_sections.specs.Keys.{key1_named, can_set1}
 use Rattle.grib_words.specs.declared.command.Command.{Command}
 use Rattle.grib_words.specs.declared.command.Command.TheVariants as the
-use Rattle.grib_words.specs.declared.command.Command.TheVariants.{Check, Keys, Stats, Dump, Values, Filter, Split, Set, Repack, Migrate, Demote, Rescan, Crop, Make, Help, Version}
+use Rattle.grib_words.specs.declared.command.Command.TheVariants.{Check, Keys, Stats, Dump, Values, Coordinates, Filter, Split, Set, Repack, Migrate, Demote, Rescan, Crop, Make, Help, Version}
 use Rattle.grib_words.specs.Choices.{is_test}
 use Rattle.grib_words.specs.Columns.{is_columns, are_names}
-use Rattle.grib_words.specs.Values.{number, is_not_empty, is_between, signed_number, key_value}
+use Rattle.grib_numbers.specs.Numbers.{number, is_between, signed_number}
+use Rattle.grib_numbers.specs.Degrees.{degrees_of, are_degrees}
+use Rattle.grib_words.specs.Values.{is_not_empty, key_value}
 
 -- whether a text is this one
 abbrev pub is : List ℕ → List ℕ → Bool
@@ -151,6 +153,27 @@ box_entries =
     ∷ entry (is (codes "j1")) is_side
     ∷ []
 
+-- the edges of a box in degrees, or a place
+abbrev pub is_latitude : List ℕ → Bool
+is_latitude = are_degrees (neg_ℤ (pos 90000000)) (pos 90000000)
+
+abbrev pub is_longitude : List ℕ → Bool
+is_longitude = are_degrees (neg_ℤ (pos 360000000)) (pos 360000000)
+
+abbrev pub degree_entries : List Entry
+degree_entries =
+    entry (is (codes "north")) is_latitude
+    ∷ entry (is (codes "south")) is_latitude
+    ∷ entry (is (codes "lat")) is_latitude
+    ∷ entry (is (codes "west")) is_longitude
+    ∷ entry (is (codes "east")) is_longitude
+    ∷ entry (is (codes "lon")) is_longitude
+    ∷ []
+
+-- what `crop` is asked for
+abbrev pub crop_entries : List Entry
+crop_entries = box_entries ++ degree_entries
+
 -- What a run does with octets that are refused and with messages that are kept: they are left out, or copied as they are.
 -- Where lines are printed, nothing is copied between them.
 abbrev pub is_instead : List ℕ → Bool
@@ -169,6 +192,7 @@ past_entries Keys = passed_entry (codes "refused") ∷ []
 past_entries Stats = passed_entry (codes "refused") ∷ []
 past_entries Dump = passed_entry (codes "refused") ∷ passed_entry (codes "kept") ∷ []
 past_entries Values = passed_entry (codes "refused") ∷ passed_entry (codes "kept") ∷ []
+past_entries Coordinates = passed_entry (codes "refused") ∷ passed_entry (codes "kept") ∷ []
 past_entries Make = []
 past_entries Help = []
 past_entries Version = []
@@ -242,6 +266,35 @@ abbrev pub has_box : List (List ℕ) → Bool
 has_box words =
     has_sides words && (in_order (codes "i0") (codes "i1") words && in_order (codes "j0") (codes "j1") words)
 
+-- the degrees of the word of this name, in 10^-6 degree, 0 where no word has it
+abbrev pub degrees_by : List ℕ → List (List ℕ) → ℤ
+degrees_by name words = unwrap_or (degrees_of (value_of name words)) (pos 0)
+
+-- all edges of a box in degrees are there, and the south is not north of the north
+abbrev pub has_all_edges : List (List ℕ) → Bool
+has_all_edges words =
+    has_name (codes "north") words && (has_name (codes "south") words && (has_name (codes "west") words && has_name (codes "east") words))
+
+abbrev pub has_edges : List (List ℕ) → Bool
+has_edges words =
+    has_all_edges words && int_le (degrees_by (codes "south") words) (degrees_by (codes "north") words)
+
+-- some of the sides are there, or some of the edges
+abbrev pub has_a_side : List (List ℕ) → Bool
+has_a_side words =
+    has_name (codes "i0") words || (has_name (codes "i1") words || (has_name (codes "j0") words || has_name (codes "j1") words))
+
+abbrev pub has_an_edge : List (List ℕ) → Bool
+has_an_edge words =
+    has_name (codes "north") words || (has_name (codes "south") words || (has_name (codes "west") words || has_name (codes "east") words))
+
+-- a place, a box in degrees, or a box by columns and rows: one of them alone
+abbrev pub has_crop : List (List ℕ) → Bool
+has_crop words =
+    cond (has_name (codes "lat") words) (has_name (codes "lon") words && not (has_a_side words || has_an_edge words))
+    (cond (has_name (codes "north") words) (has_edges words && not (has_name (codes "lon") words || has_a_side words))
+    (has_box words && not (has_name (codes "lon") words || has_an_edge words)))
+
 -- what is asked of all words of a command: nothing, or that there is one on a key
 abbrev pub nothing : List (List ℕ) → Bool
 nothing words = true
@@ -288,8 +341,10 @@ row_of Check = row (codes "check") [] nothing
 row_of the.List = row (codes "list") (line_entries (codes "with")) nothing
 row_of Keys = row (codes "keys") (line_entries (codes "show")) nothing
 row_of Stats = row (codes "stats") [] nothing
-row_of Dump = row (codes "dump") (entry (is (codes "decimals")) (is_between 0 18) ∷ []) nothing
+row_of Dump =
+    row (codes "dump") (entry (is (codes "decimals")) (is_between 0 18) ∷ entry (is (codes "place")) (is (codes "yes")) ∷ []) nothing
 row_of Values = row (codes "values") (entry (is (codes "as")) (λ value. is (codes "f4") value || is (codes "f8") value) ∷ []) nothing
+row_of Coordinates = row (codes "coordinates") [] nothing
 row_of Filter = row (codes "filter") filter_entries has_condition
 row_of Split =
     row (codes "split") (entry (is (codes "out")) is_not_empty ∷ entry (is (codes "editions")) (is (codes "both")) ∷ [])
@@ -307,7 +362,7 @@ row_of Demote =
     ∷ entry (is (codes "tables")) (is (codes "any")) ∷ [])
     (has_name (codes "params"))
 row_of Rescan = row (codes "rescan") [] nothing
-row_of Crop = row (codes "crop") box_entries has_box
+row_of Crop = row (codes "crop") crop_entries has_crop
 row_of Make =
     row (codes "make") (size_entries ++ target_entries)
     (λ words. has_name (codes "seed") words && (has_name (codes "ni") words && (has_name (codes "nj") words && has_target words)))
@@ -326,7 +381,7 @@ reads_input command = true
 
 abbrev pub commands : List Command
 commands =
-    Check ∷ the.List ∷ Keys ∷ Stats ∷ Dump ∷ Values ∷ Filter ∷ Split ∷ Set ∷ Repack ∷ Migrate ∷ Demote ∷ Rescan ∷ Crop ∷ Make ∷ Help ∷ Version ∷ []
+    Check ∷ the.List ∷ Keys ∷ Stats ∷ Dump ∷ Values ∷ Coordinates ∷ Filter ∷ Split ∷ Set ∷ Repack ∷ Migrate ∷ Demote ∷ Rescan ∷ Crop ∷ Make ∷ Help ∷ Version ∷ []
 
 -- whether a word is the name of a command; those on the program itself may have `--` before their names
 abbrev pub is_called : Command → List ℕ → Bool

@@ -29,6 +29,8 @@ use Rattle.grib_params.specs.declared.matching.TableMatch.TheVariants.{Any, Same
 use Rattle.grib_repack.specs.declared.target.RepackTarget.{RepackTarget}
 use Rattle.grib_repack.specs.declared.target.RepackTarget.TheVariants.{Simple, Complex, Spatial, Coded}
 use Rattle.grib_rescan.specs.declared.points.Area.{Area}
+use Rattle.grib_rescan.specs.declared.bounds.Bounds.{Bounds}
+use Rattle.grib_rescan.specs.declared.bounds.Bounds.TheVariants.{Box, Nearest}
 use Rattle.grib_command.specs.declared.job.Job.{Job}
 use Rattle.grib_command.specs.declared.job.Job.TheVariants as jobs
 use Rattle.grib_command.specs.declared.page.Page.TheVariants as pages
@@ -38,11 +40,12 @@ use Rattle.grib_words.specs.declared.command.Command.{Command}
 use Rattle.grib_words.specs.declared.command.Command.TheVariants as commands
 use Rattle.grib_words.specs.Choices.{choices_of}
 use Rattle.grib_words.specs.Columns.{columns_in, names_in}
-use Rattle.grib_words.specs.Values.{is_between, signed_number, key_value}
+use Rattle.grib_numbers.specs.Numbers.{is_between, signed_number}
+use Rattle.grib_words.specs.Values.{key_value}
 use Rattle.grib_items.specs.declared.policy.Instead.{Instead}
 use Rattle.grib_items.specs.declared.policy.Instead.TheVariants.{Copy, Pass}
 use Rattle.grib_items.specs.declared.policy.Policy.{Policy}
-use Rattle.grib_words.specs.Reading.{is, is_marked, asked_key, asked_key1, name_in, value_in, value_of, value_if_given, number_of, number_if_given, has_name, has_word, has_first, reading}
+use Rattle.grib_words.specs.Reading.{is, is_marked, asked_key, asked_key1, name_in, value_in, value_of, value_if_given, number_of, number_if_given, degrees_by, has_name, has_word, has_first, reading}
 
 -- by which profile messages of edition 2 are accepted
 abbrev pub profile_of : List (List ℕ) → Profile
@@ -77,6 +80,19 @@ area_of words = record {
   j0 = number_of (codes "j0") words;
   j1 = number_of (codes "j1") words;
 }
+
+-- what `crop` asks for: the point nearest to a place, a box in degrees, or a box by columns and rows
+abbrev pub nearest_of : List (List ℕ) → Bounds
+nearest_of words = Nearest (degrees_by (codes "lat") words) (degrees_by (codes "lon") words)
+
+abbrev pub edges_of : List (List ℕ) → Bounds
+edges_of words =
+    Box (degrees_by (codes "north") words) (degrees_by (codes "south") words) (degrees_by (codes "west") words) (degrees_by (codes "east") words)
+
+abbrev pub crop_of : List (List ℕ) → Job
+crop_of words =
+    cond (has_name (codes "lat") words) (jobs.Within (nearest_of words))
+    (cond (has_name (codes "north") words) (jobs.Within (edges_of words)) (jobs.Crop (area_of words)))
 
 abbrev pub change : Key → Value → Change
 change key value = record { key = key; value = value }
@@ -179,8 +195,9 @@ job_of_command commands.Check words = Ok jobs.Check
 job_of_command commands.List words = Ok (list_of words)
 job_of_command commands.Keys words = Ok (keys_of words)
 job_of_command commands.Stats words = Ok jobs.Stats
-job_of_command commands.Dump words = Ok (jobs.Dump (number_if_given (codes "decimals") words))
+job_of_command commands.Dump words = Ok (jobs.Dump (number_if_given (codes "decimals") words) (has_name (codes "place") words))
 job_of_command commands.Values words = Ok (jobs.Values (format_of words))
+job_of_command commands.Coordinates words = Ok jobs.Coordinates
 job_of_command commands.Filter words = Ok (filter_of words)
 job_of_command commands.Split words = Ok (jobs.Split (value_of (codes "out") words) (has_name (codes "editions") words))
 job_of_command commands.Set words = Ok (set_of words)
@@ -190,7 +207,7 @@ job_of_command commands.Migrate words =
 job_of_command commands.Demote words =
     Ok (jobs.Demote (value_of (codes "params") words) (has_name (codes "local") words) (has_name (codes "earth") words) (matching_of words))
 job_of_command commands.Rescan words = Ok jobs.Rescan
-job_of_command commands.Crop words = Ok (jobs.Crop (area_of words))
+job_of_command commands.Crop words = Ok (crop_of words)
 job_of_command commands.Make words =
     Ok (jobs.Make (number_of (codes "seed") words) (number_of (codes "ni") words) (number_of (codes "nj") words) (target_of words))
 job_of_command commands.Help words = Ok (jobs.Print pages.Help)

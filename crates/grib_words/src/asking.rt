@@ -3,19 +3,20 @@
 ghost use Rattle.std.specs.Prelude.{◌≡◌, ◌-◌, ◌^◌, true, false, codes, map, string_bytes, Ok, IfOk};
 ghost use Rattle.grib_words.specs.Reading as grammar;
 ghost use Rattle.grib_words.specs.Reading.{is, is_named, reading_of};
-ghost use Rattle.grib_words.specs.Values.{is_between};
+ghost use Rattle.grib_numbers.specs.Numbers.{is_between};
 ghost use Rattle.grib_words.specs.Words as asked;
 ghost use Rattle.std.specs.declared.option.Option.TheVariants.{Some};
 
 use crate::choosing::{filter_of, keys_of, list_of, set_of};
 use crate::command::Command;
+use crate::crop::{edges_of, nearest_of};
 use crate::job::JobFault;
 use crate::policy::profile_of;
 use crate::reading::{has_name, is_named};
-use crate::values::number_of;
 use grib_command::{Job, Name, Page};
 use grib_migrate::Local;
 use grib_nearest::Format;
+use grib_numbers::{degrees_of, number_of};
 use grib_params::TableMatch;
 use grib_repack::RepackTarget;
 use grib_rescan::Area;
@@ -33,8 +34,10 @@ pub fn job_of_command(alloc: Global, command: Command, words: &[String]) -> Resu
         Command::Stats => Ok(Job::Stats),
         Command::Dump => Ok(Job::Dump {
             decimals: number_if_given(words, "decimals"),
+            placed: has_name(words, "place"),
         }),
         Command::Values => Ok(Job::Values(format_of(words))),
+        Command::Coordinates => Ok(Job::Coordinates),
         Command::Filter => Ok(filter_of(alloc, words)?),
         Command::Split => Ok(Job::Split {
             name: name_by(alloc, words, "out")?,
@@ -60,7 +63,7 @@ pub fn job_of_command(alloc: Global, command: Command, words: &[String]) -> Resu
             matching: matching_of(words),
         }),
         Command::Rescan => Ok(Job::Rescan),
-        Command::Crop => Ok(Job::Crop(area_of(words))),
+        Command::Crop => Ok(crop_of(words)),
         Command::Help => Ok(Job::Print(Page::Help)),
         Command::Version => Ok(Job::Print(Page::Version)),
     }
@@ -156,6 +159,22 @@ fn target_of(words: &[String]) -> RepackTarget
     }
 }
 
+/// The job of `crop` with these arguments.
+fn crop_of(words: &[String]) -> Job
+    requires { grammar.has_name (codes "lat") (map string_bytes words.now) ≡ false
+        → grammar.has_name (codes "north") (map string_bytes words.now) ≡ false
+        → asked.SidesStand (map string_bytes words.now) }
+    ensures { result ≡ asked.crop_of (map string_bytes words.now) }
+{
+    if has_name(words, "lat") {
+        Job::Within(nearest_of(words))
+    } else if has_name(words, "north") {
+        Job::Within(edges_of(words))
+    } else {
+        Job::Crop(area_of(words))
+    }
+}
+
 /// The subarea whose sides the arguments give.
 fn area_of(words: &[String]) -> Area
     requires { asked.SidesStand (map string_bytes words.now) }
@@ -178,6 +197,13 @@ pub fn number_by(words: &[String], name: &str) -> u32
         Some(number) => number as u32,
         None => unreachable!(),
     }
+}
+
+/// The degrees of the argument that has this name, in 10^-6 degree, 0 where there is none.
+pub fn degrees_by(words: &[String], name: &str) -> i32
+    ensures { result ≡ grammar.degrees_by name.now (map string_bytes words.now) }
+{
+    degrees_of(value_of(words, name)).unwrap_or(0)
 }
 
 /// The number of the argument that has this name, where there is one.

@@ -3,8 +3,9 @@
 ghost use Rattle.std.specs.Prelude.{◌≡◌, map, string_bytes, IfOk};
 ghost use Rattle.grib_words.specs.Words as asked;
 
-use crate::values::{key_value, signed_number};
+use crate::values::key_value;
 use grib_keys::{Change, Key};
+use grib_numbers::signed_number;
 use grib1_sections::Key1;
 use grib1_select::Change1;
 use std::alloc::{AllocError, Global};

@@ -4,8 +4,9 @@ ghost use Rattle.std.specs.Prelude.{◌≡◌, option_map, IfOk};
 ghost use Rattle.std.specs.List.{filter_map};
 ghost use Rattle.grib_words.specs.Choices as definitions;
 
-use crate::values::{key_value, signed_number};
+use crate::values::key_value;
 use grib_keys::{Choice, Choices};
+use grib_numbers::signed_number;
 use std::alloc::{AllocError, Global};
 
 /// Whether each element of a list with `,` between them is a value or a range.

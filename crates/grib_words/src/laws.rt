@@ -14,7 +14,7 @@ ghost use Rattle.grib2_message.specs.Fields.{field_count};
 ghost use Rattle.grib2_message.specs.Message.{IsAnyMessage};
 ghost use Rattle.grib_select.specs.Bounds.{IsWithin64};
 ghost use Rattle.grib_select.specs.Values.{key_value_of, fulfils_all};
-ghost use Rattle.grib_words.specs.declared.command.Command.TheVariants.{Check, List as ListFields, Keys, Dump, Filter, Split, Set, Repack, Migrate, Demote, Help, Version};
+ghost use Rattle.grib_words.specs.declared.command.Command.TheVariants.{Check, List as ListFields, Keys, Dump, Coordinates, Filter, Split, Set, Repack, Migrate, Demote, Crop, Help, Version};
 ghost use Rattle.grib_words.specs.Reading.{command_named, reading};
 ghost use Rattle.grib_words.specs.Words.{change, change_of, change1_of, wanted, wanted_of, wanted1, wanted1_of, conditions_of};
 
@@ -78,6 +78,16 @@ pub fn unread_lines()
     ensures set_scale { reading (codes "set" ∷ codes "Centre=7" ∷ codes "DecimalScale=0" ∷ []) ≡ Err 2 }
     ensures dates_alone { reading (codes "set" ∷ codes "dates=valid" ∷ []) ≡ Err 2 }
     ensures other_dates { reading (codes "set" ∷ codes "centre=7" ∷ codes "dates=any" ∷ []) ≡ Err 2 }
+    ensures no_place { reading (codes "dump" ∷ codes "place=no" ∷ []) ≡ Err 1 }
+    ensures valued_places { reading (codes "coordinates" ∷ codes "as=f4" ∷ []) ≡ Err 1 }
+    ensures one_edge { reading (codes "crop" ∷ codes "north=60" ∷ codes "south=50" ∷ codes "west=-10" ∷ []) ≡ Err 4 }
+    ensures no_edges { reading (codes "crop" ∷ codes "south=50" ∷ codes "west=-10" ∷ codes "east=0" ∷ []) ≡ Err 4 }
+    ensures south_first { reading (codes "crop" ∷ codes "north=50" ∷ codes "south=60" ∷ codes "west=-10" ∷ codes "east=0" ∷ []) ≡ Err 5 }
+    ensures too_far_north { reading (codes "crop" ∷ codes "north=90.000001" ∷ []) ≡ Err 1 }
+    ensures too_far_east { reading (codes "crop" ∷ codes "lat=0" ∷ codes "lon=361" ∷ []) ≡ Err 2 }
+    ensures both_boxes { reading (codes "crop" ∷ codes "i0=0" ∷ codes "i1=0" ∷ codes "j0=0" ∷ codes "j1=0" ∷ codes "east=0" ∷ []) ≡ Err 6 }
+    ensures box_and_place { reading (codes "crop" ∷ codes "lat=0" ∷ codes "lon=0" ∷ codes "i0=0" ∷ []) ≡ Err 4 }
+    ensures lat_alone { reading (codes "crop" ∷ codes "lat=52.5" ∷ []) ≡ Err 2 }
     ensures one_edition { reading (codes "split" ∷ codes "out=p" ∷ codes "editions=1" ∷ []) ≡ Err 2 }
     ensures editions_alone { reading (codes "split" ∷ codes "editions=both" ∷ []) ≡ Err 2 }
     ensures refused_once { reading (codes "filter" ∷ codes "refused=pass" ∷ codes "centre=7" ∷ codes "refused=copy" ∷ []) ≡ Err 3 }
@@ -108,6 +118,10 @@ pub fn read_lines()
     ensures first_asked { reading (codes "filter" ∷ codes "Centre=98" ∷ codes "Level!=1..5" ∷ codes "Centre=7,98" ∷ []) ≡ Ok Filter }
     ensures first_set { reading (codes "set" ∷ codes "dates=valid" ∷ codes "Centre=98" ∷ codes "Level=0" ∷ []) ≡ Ok Set }
     ensures dated { reading (codes "set" ∷ codes "month=2" ∷ codes "dates=valid" ∷ []) ≡ Ok Set }
+    ensures placed { reading (codes "dump" ∷ codes "place=yes" ∷ codes "decimals=2" ∷ []) ≡ Ok Dump }
+    ensures coordinates { reading (codes "coordinates" ∷ codes "kept=pass" ∷ codes "profile=open" ∷ []) ≡ Ok Coordinates }
+    ensures in_degrees { reading (codes "crop" ∷ codes "west=350" ∷ codes "east=10.5" ∷ codes "south=-1" ∷ codes "north=-0.5" ∷ []) ≡ Ok Crop }
+    ensures nearest { reading (codes "crop" ∷ codes "lon=-0.125" ∷ codes "kept=copy" ∷ codes "lat=51.5" ∷ []) ≡ Ok Crop }
     ensures both_editions { reading (codes "split" ∷ codes "editions=both" ∷ codes "out=p" ∷ []) ≡ Ok Split }
     ensures asked_not { reading (codes "filter" ∷ codes "kept=pass" ∷ codes "surface1Value!=missing" ∷ []) ≡ Ok Filter }
 {}

@@ -7,6 +7,7 @@ mod choices;
 mod choosing;
 mod columns;
 mod command;
+mod crop;
 mod editions;
 mod job;
 pub mod laws;
@@ -16,6 +17,7 @@ mod values;
 mod wanted;
 
 pub use command::Command;
+pub use crop::{has_a_side, has_an_edge};
 pub use editions::{
     has_first, is_any_key, is_asked, is_key_to_set, is_key1, is_key1_to_set, is_mixed, is_on_first,
 };

@@ -2,15 +2,15 @@
 
 ghost use Rattle.std.specs.Prelude.{codes, cond, true, ◌≡◌, ◌≤◌, [], length, map, string_bytes};
 ghost use Rattle.grib_words.specs.Reading as grammar;
-ghost use Rattle.grib_words.specs.Reading.{entries, own_entries, policy_entries, past_entries, profile_entries, line_entries, filter_entries, set_entries, box_entries, size_entries, target_entries, reading};
-ghost use Rattle.grib_words.specs.declared.command.Command.TheVariants.{Crop};
+ghost use Rattle.grib_words.specs.Reading.{entries, own_entries, policy_entries, past_entries, profile_entries, line_entries, filter_entries, set_entries, size_entries, target_entries, reading};
 
-use crate::asking::number_by;
 use crate::choices::is_test;
 use crate::columns::{are_names, is_columns};
 use crate::command::Command;
+use crate::crop::{has_crop, takes_part};
 use crate::editions::{is_any_key, is_asked, is_key_to_set, is_key1_to_set, is_mixed};
-use crate::values::{is_between, key_value, signed_number};
+use crate::values::key_value;
+use grib_numbers::{is_between, signed_number};
 
 /// Reads the arguments of a command line: the command that they ask for. Where they ask for none, the place
 /// of the first argument that is not read, from 0 for the command on, or the number of arguments where all are
@@ -107,7 +107,8 @@ fn takes_past(command: Command, name: &str, value: &str) -> bool
         Command::Check | Command::List | Command::Keys | Command::Stats => {
             name == "refused" && value == "pass"
         }
-        Command::Dump | Command::Values => matches!(name, "refused" | "kept") && value == "pass",
+        Command::Dump | Command::Values | Command::Coordinates => matches!(name, "refused" | "kept")
+            && value == "pass",
         Command::Filter
         | Command::Split
         | Command::Set
@@ -136,11 +137,17 @@ fn takes_own(command: Command, name: &str, value: &str) -> bool
     ensures { result ≡ grammar.takes (own_entries command) name.now value.now }
 {
     match command {
-        Command::Check | Command::Stats | Command::Rescan | Command::Help | Command::Version =>
-            false,
+        Command::Check
+        | Command::Stats
+        | Command::Coordinates
+        | Command::Rescan
+        | Command::Help
+        | Command::Version => false,
         Command::List => takes_line(name, value, "with"),
         Command::Keys => takes_line(name, value, "show"),
-        Command::Dump => name == "decimals" && is_between(value, 0, 18),
+        Command::Dump => {
+            (name == "decimals" && is_between(value, 0, 18)) || (name == "place" && value == "yes")
+        }
         Command::Values => name == "as" && matches!(value, "f4" | "f8"),
         Command::Filter => takes_condition(name, value),
         Command::Set => takes_change(name, value),
@@ -159,7 +166,7 @@ fn takes_own(command: Command, name: &str, value: &str) -> bool
                 || (name == "local" && value == "keep")
                 || (matches!(name, "earth" | "tables") && value == "any")
         }
-        Command::Crop => takes_side(name, value),
+        Command::Crop => takes_part(name, value),
         Command::Make => takes_size(name, value) || takes_target(name, value),
     }
 }
@@ -197,13 +204,6 @@ fn takes_target(name: &str, value: &str) -> bool
         || (name == "order" && matches!(value, "1" | "2"))
 }
 
-/// Whether the names of the sides of a subarea have a name with this value.
-fn takes_side(name: &str, value: &str) -> bool
-    ensures { result ≡ grammar.takes box_entries name.now value.now }
-{
-    matches!(name, "i0" | "i1" | "j0" | "j1") && is_between(value, 0, 33_554_431)
-}
-
 /// Whether the names of the size and the contents of a synthetic message have a name with this value.
 fn takes_size(name: &str, value: &str) -> bool
     ensures { result ≡ grammar.takes size_entries name.now value.now }
@@ -225,6 +225,7 @@ fn is_complete(command: Command, words: &[String]) -> bool
         | Command::Stats
         | Command::Dump
         | Command::Values
+        | Command::Coordinates
         | Command::Rescan
         | Command::Help
         | Command::Version => true,
@@ -233,7 +234,7 @@ fn is_complete(command: Command, words: &[String]) -> bool
         Command::Split => has_name(words, "out"),
         Command::Repack => has_target(words) && has_profile_of_target(words),
         Command::Migrate | Command::Demote => has_name(words, "params"),
-        Command::Crop => has_box(words),
+        Command::Crop => has_crop(words),
         Command::Make => {
             has_name(words, "seed")
                 && has_name(words, "ni")
@@ -300,26 +301,6 @@ fn has_target(words: &[String]) -> bool
     ensures { result ≡ grammar.has_target (map string_bytes words.now) }
 {
     has_name(words, "to") && has_name(words, "order") == has_word(words, "to=3")
-}
-
-/// Whether all sides of a subarea are among the arguments, which are read, and the last ones are not before the
-/// first.
-fn has_box(words: &[String]) -> bool
-    requires { grammar.read_count Crop [] (map string_bytes words.now) ≡ length words.now }
-    ensures { result ≡ grammar.has_box (map string_bytes words.now) }
-{
-    if !has_sides(words) {
-        return false;
-    }
-    number_by(words, "i0") <= number_by(words, "i1")
-        && number_by(words, "j0") <= number_by(words, "j1")
-}
-
-/// Whether all sides of a subarea are among the arguments.
-fn has_sides(words: &[String]) -> bool
-    ensures { result ≡ grammar.has_sides (map string_bytes words.now) }
-{
-    has_name(words, "i0") && has_name(words, "i1") && has_name(words, "j0") && has_name(words, "j1")
 }
 
 /// Whether this is one of the arguments.

@@ -7,7 +7,7 @@ use Rattle.grib_dispatch.proofs.HeardMessages.{in_time}
 use Rattle.grib_run_spec.specs.Seen.{seen}
 use Rattle.grib_run_spec.specs.Serving.{Serves, IfUnread}
 use Rattle.grib_run_spec.specs.Tasks.{Makes, IfHears, has_shelf, work_under, writing}
-use Rattle.grib_engine.proofs.Unread.{lines_unheard}
+use Rattle.grib_engine.proofs.Unread.{lines_unheard, dump_unheard, dump_reads}
 use Rattle.grib_engine.proofs.serving.serve_under.Goals as goal
 
 pub returns-in-Check-clause-soon : goal.returns-in-Check-clause-soon
@@ -76,3 +76,24 @@ returns-in-FilterNamed-clause-serves g c =
     let before = see c.args.input.now c.args.output.now c.args.notes.now c.args.shelf.now in
     let now = see c.serve_filtered_named.new.input c.serve_filtered_named.new.output c.serve_filtered_named.new.notes c.serve_filtered_named.new.shelf in
     subst (λ job. Serves (g.T.Sink.takes_memory || g.N.Sink.takes_memory) (work_under c.args.profile job) c.args.policy c.serve_filtered_named.result before now) (sym c.in-FilterNamed.is) c.serve_filtered_named.ensures.serves
+
+pub returns-in-Dump-clause-serves : goal.returns-in-Dump-clause-serves
+returns-in-Dump-clause-serves g c =
+    let see = seen g.S.Source.left g.S.Source.faults g.T.Sink.contents g.T.Sink.faults g.T.Sink.settled g.N.Sink.contents g.N.Sink.faults g.N.Sink.settled g.H.Shelf.contents g.H.Shelf.faults in
+    let before = see c.args.input.now c.args.output.now c.args.notes.now c.args.shelf.now in
+    let now = see c.serve_dumped.new.input c.serve_dumped.new.output c.serve_dumped.new.notes c.serve_dumped.new.shelf in
+    subst (λ job. Serves (g.T.Sink.takes_memory || g.N.Sink.takes_memory) (work_under c.args.profile job) c.args.policy c.serve_dumped.result before now) (sym c.in-Dump.is) c.serve_dumped.ensures.serves
+
+pub returns-in-Dump-clause-soon : goal.returns-in-Dump-clause-soon
+returns-in-Dump-clause-soon g c = λ nothing.
+    let soon = RefusesInTime c.args.profile c.serve_dumped.result (g.S.Source.left c.args.input.now) (g.S.Source.left c.serve_dumped.new.input) in
+    subst (λ job. IfHears job soon) (sym c.in-Dump.is) (dump_unheard c.in-Dump.decimals c.in-Dump.placed soon)
+
+pub returns-in-Dump-clause-unread : goal.returns-in-Dump-clause-unread
+returns-in-Dump-clause-unread g c =
+    let unread = c.serve_dumped.new.input ≡ c.args.input.now in
+    subst (λ job. IfUnread (work_under c.args.profile job) (g.H.Shelf.contents c.args.shelf.now) unread) (sym c.in-Dump.is)
+    (dump_reads c.args.profile c.in-Dump.decimals c.in-Dump.placed (g.H.Shelf.contents c.args.shelf.now) unread)
+
+pub returns-in-Dump-clause-unused : goal.returns-in-Dump-clause-unused
+returns-in-Dump-clause-unused g c = λ unshelved. c.serve_dumped.ensures.unused

@@ -7,6 +7,10 @@ pub returns-clause-eastward : goal.returns-clause-eastward
 unfolding nearest_word size span climb
 returns-clause-eastward c = refl
 
+pub returns-clause-round : goal.returns-clause-round
+unfolding nearest_word size span climb
+returns-clause-round c = refl
+
 pub returns-clause-westward : goal.returns-clause-westward
 unfolding nearest_word size span climb
 returns-clause-westward c = refl

@@ -2,7 +2,6 @@ use Rattle.std.proofs.Common.{◌+◌, ◌*◌, ap, ◌∙◌}
 use Rattle.grib_bits.specs.Octets.{octets}
 use Rattle.grib_packing.specs.declared.column.Column.{Column}
 use Rattle.grib2_message.specs.Fields.{part_octets, column_of}
-use Rattle.grib_rescan.specs.Scanning.{scanning_of}
 use Rattle.grib_rescan.specs.Points.{point, width, height}
 use Rattle.grib_rescan.proofs.Rows.{box_at}
 use Rattle.grib_reorder.specs.declared.edit.GridEdit.TheVariants.{Crop}
@@ -12,7 +11,7 @@ pub returns-clause-entries : goal.returns-clause-entries
 returns-clause-entries c = λ profile area message may i low high x y small few.
     let s = part_octets message i 3 in
     ap (λ (column : Column). point column.points (y * width area + x)) (c.what_is_edited_is_accepted.ensures.columns profile (Crop area) message may i low high)
-    ∙ box_at (scanning_of 0) (octets s 31 34) (octets s 35 38) (column_of message i).points area.i0 (width area) area.j0 (height area) x y small few
+    ∙ box_at (octets s 31 34) (octets s 35 38) (column_of message i).points area.i0 (width area) area.j0 (height area) x y small few
 
 pub returns-clause-reference : goal.returns-clause-reference
 returns-clause-reference c = λ profile area message may i low high.

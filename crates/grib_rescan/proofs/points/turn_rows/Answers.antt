@@ -2,7 +2,7 @@ use Rattle.std.proofs.Common.{◌≡◌, ◌+◌, ◌*◌, ◌-◌, ◌&&◌, �
 use Rattle.std.specs.List.{range_with_len, flat_map}
 use Rattle.grib_rescan.specs.Scanning.{is_odd}
 use Rattle.grib_rescan.specs.Points.{row_of}
-use Rattle.grib_rescan.proofs.Rows.{box_length}
+use Rattle.grib_rescan.proofs.Rows.{part_length}
 use Rattle.grib_rescan.proofs.Runs.{IsRead}
 use Rattle.grib_rescan.proofs.Turned.{row_in_place, row_placed, after_turn, after_none, old_size}
 use Rattle.grib_rescan.proofs.points.turn_rows.Goals as goal
@@ -21,7 +21,7 @@ loop-row-preserved c =
     let old = cond s.northward (reverse points) points in
     let f = row_of s ni nj old 0 ni in
     let done = flat_map f (range_with_len 0 row) in
-    let size : length done ≡ row * ni = box_length s ni nj old 0 ni 0 row in
+    let size : length done ≡ row * ni = part_length s ni nj old 0 ni 0 row in
     let read : IsRead s ni nj old row place c.if-scanning.turns = record {
       rows = c.requires.rows_stand;
       size = old_size s.northward points ∙ c.requires.length;

@@ -24,5 +24,6 @@ number_by-requires-in-Make-2 c = wider 1 4096 4294967295 (value_of (codes "nj") 
 pub target_of-requires : goal.target_of-requires
 target_of-requires c = (make_stands (map string_bytes c.args.words.now) (has_read Make (map string_bytes c.args.words.now) (rw c.in-Make.is at c.requires))).order
 
-pub area_of-requires : goal.area_of-requires
-area_of-requires c = (crop_stands (map string_bytes c.args.words.now) (has_read Crop (map string_bytes c.args.words.now) (rw c.in-Crop.is at c.requires))).sides
+pub crop_of-requires : goal.crop_of-requires
+crop_of-requires c = λ no_place no_degrees.
+    (crop_stands (map string_bytes c.args.words.now) (has_read Crop (map string_bytes c.args.words.now) (rw c.in-Crop.is at c.requires)) no_place no_degrees).sides

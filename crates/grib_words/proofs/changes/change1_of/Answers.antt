@@ -3,7 +3,7 @@ use Rattle.std.specs.Prelude.{option_map}
 use Rattle.std.specs.Option.{option_and_then}
 use Rattle.grib1_sections.specs.declared.key.Key1.{Key1}
 use Rattle.grib1_sections.specs.Keys.{key1_named}
-use Rattle.grib_words.specs.Values.{signed_number}
+use Rattle.grib_numbers.specs.Numbers.{signed_number}
 use Rattle.grib_words.specs.Reading.{name_in, value_in}
 use Rattle.grib_words.specs.Words.{change1, change1_of}
 use Rattle.grib_words.proofs.Parts.{no_change1, change1_read}

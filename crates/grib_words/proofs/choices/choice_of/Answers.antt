@@ -4,7 +4,7 @@ use Rattle.grib_keys.specs.declared.condition.Value.{Value}
 use Rattle.grib_keys.specs.declared.wanted.Choice.TheVariants.{One}
 use Rattle.grib_words.specs.Values.{key_value}
 use Rattle.grib_words.specs.Choices.{is_dot, choice_of}
-use Rattle.grib_words.proofs.Parts.{no_place}
+use Rattle.grib_numbers.proofs.Places.{no_place}
 use Rattle.grib_words.proofs.choices.choice_of.Goals as goal
 
 one_choice : (text : List ℕ) (value : Value) → list_any is_dot text ≡ false → key_value text ≡ Some value → Some (One value) ≡ choice_of text

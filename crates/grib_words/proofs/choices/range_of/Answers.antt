@@ -1,5 +1,5 @@
 use Rattle.std.proofs.Common.{◌≡◌, ℕ, ◌==◌, ℤ, false, Some, List, length, refl, sym, ◌∙◌, FitsSigned, w64, to_z-of_z, rules}
-use Rattle.grib_words.specs.Values.{signed_number}
+use Rattle.grib_numbers.specs.Numbers.{signed_number}
 use Rattle.grib_words.specs.Choices.{between, range_of}
 use Rattle.grib_words.proofs.choices.range_of.Goals as goal
 

@@ -1,9 +1,10 @@
-use Rattle.std.proofs.Common.{◌≡◌, ℕ, ◌*◌, None, sym, ap₂, ◌∙◌, arith, subst}
+use Rattle.std.proofs.Common.{◌≡◌, ℕ, ◌*◌, None, sym, ap₂, ◌∙◌, subst}
 use Rattle.grib_base.specs.declared.profile.Profile.TheVariants.{Stated}
 use Rattle.grib_rescan.proofs.Added.{all_added}
-use Rattle.grib_rescan.proofs.Uncaused.{can_be_cut, can_be_rescanned}
+use Rattle.grib_rescan.proofs.Uncaused.{can_be_cut, can_be_rescanned, has_within}
 use Rattle.grib_reorder.specs.declared.edit.GridEdit.{GridEdit}
 use Rattle.grib_reorder.specs.Rescanned.{Stands, cause_of}
+use Rattle.grib_reorder.proofs.Grids.{box_of}
 use Rattle.grib_reorder.proofs.edit.GridEdit.plain_column.Goals as goal
 
 pub rescan_columns-requires-clause-length : goal.rescan_columns-requires-clause-length
@@ -26,9 +27,24 @@ crop_points-requires-clause-within c =
     let stands = subst Stands c.in-Crop.is c.requires.stands in
     let uncaused = subst (λ (edit : GridEdit). cause_of edit s ≡ None) c.in-Crop.is c.requires.uncaused in
     let can = can_be_cut Stated c.in-Crop.area s c.requires.accepted uncaused in
-    record {
-      columns = stands.0;
-      rows = stands.1;
-      last_column = omega (arith, can.last_column, c.u32_at-ni.ensures);
-      last_row = omega (arith, can.last_row, c.u32_at-nj.ensures);
-    }
+    let box = box_of c.in-Crop.area s stands can in
+    rw (c.u32_at-ni.ensures, c.u32_at-nj.ensures) box
+
+pub crop_points-requires-in-Within-clause-length : goal.crop_points-requires-in-Within-clause-length
+crop_points-requires-in-Within-clause-length c =
+    let s = c.args.section3.now in
+    let uncaused = subst (λ (edit : GridEdit). cause_of edit s ≡ None) c.in-Within.is c.requires.uncaused in
+    let has = has_within Stated c.in-Within.bounds s c.requires.accepted uncaused in
+    all_added c.args.field.now.numbers ∙ c.requires.field.count ∙ sym has.lat_lon.product ∙ sym (ap₂ (λ (a b : ℕ). a * b) c.u32_at-ni.ensures c.u32_at-nj.ensures)
+
+pub crop_points-requires-in-Within-clause-within : goal.crop_points-requires-in-Within-clause-within
+crop_points-requires-in-Within-clause-within c =
+    let s = c.args.section3.now in
+    let uncaused = subst (λ (edit : GridEdit). cause_of edit s ≡ None) c.in-Within.is c.requires.uncaused in
+    let has = has_within Stated c.in-Within.bounds s c.requires.accepted uncaused in
+    rw (c.found.ensures, c.u32_at-ni.ensures, c.u32_at-nj.ensures) has.box
+
+pub found-requires : goal.found-requires
+found-requires c =
+    let s = c.args.section3.now in
+    has_within Stated c.in-Within.bounds s c.requires.accepted (subst (λ (edit : GridEdit). cause_of edit s ≡ None) c.in-Within.is c.requires.uncaused)

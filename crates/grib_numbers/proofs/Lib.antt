@@ -1,0 +1,4 @@
+pub mod Parsed
+pub mod Places
+mod Fractions
+mod Signed
