@@ -3,10 +3,14 @@ use Rattle.std.proofs.Common.{◌≡◌, ℕ, ◌+◌, ◌-◌, ◌≤◌, true,
 use Rattle.grib2_message.specs.Fields.{field_count, part_octets}
 use Rattle.grib_places.specs.Places.{place_cause_of}
 use Rattle.grib_command.specs.LawfulCommands.{unmapped}
-use Rattle.grib_report.proofs.Causes.{causes_clear, none_of}
+use Rattle.grib_report.proofs.Causes.{causes_clear}
 use Rattle.grib_reasons.specs.declared.cause.Cause.{Cause}
 use Rattle.grib_report.specs.Valuing.{or_later}
 use Rattle.grib_placed.specs.Causes.{cause_of_field, field_place_cause, message_place_cause}
+
+none_of : (o : Option Cause) → is_none o ≡ true → o ≡ None
+none_of None is = refl
+none_of (Some cause) is = let no : ⊥ = cc in absurd no
 
 pub told : (m : List ℕ) (i : ℕ) → 1 ≤ i → i ≤ field_count m → is_none (message_place_cause m) ≡ true → place_cause_of (part_octets m i 3) ≡ None
 told m i first last none =
