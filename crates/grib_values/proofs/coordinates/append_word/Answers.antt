@@ -1,4 +1,4 @@
-use Rattle.std.proofs.Common.{rules}
+use Rattle.std.proofs.Common.{ℕ, List, ◌++◌, ap, ◌∙◌, rules}
 use Rattle.grib_nearest.specs.declared.format.Format.TheVariants.{Binary64}
 use Rattle.grib_arrays.specs.Values.{word_octets}
 use Rattle.grib_command.proofs.Outside.{front_more}
@@ -29,7 +29,8 @@ pub returns : goal.returns
 returns g c = record {
   octets = record {
     whole = pending_then _ _ c.args.octets.now.items c.make_room.new.lines.items (word_octets Binary64 c.args.word) _
-        c.in_ok-make_room.ensures.octets.whole c.in_ok-extend_from_slice.ensures.items;
+        c.in_ok-make_room.ensures.octets.whole
+        (c.in_ok-extend_from_slice.ensures.items ∙ ap (λ (xs : List ℕ). c.make_room.new.lines.items ++ xs) c.to_le_bytes.ensures);
     front = front_more _ _ c.args.octets.now.items (word_octets Binary64 c.args.word) c.make_room.ensures.octets.front;
   };
   counted = search rules;
