@@ -10,7 +10,7 @@ use Rattle.grib_dispatch.specs.Reading.{Holds, held_octets}
 use Rattle.grib_dispatch.specs.declared.reading.Held.{Held}
 use Rattle.grib_dispatch.specs.declared.reading.Held.TheVariants.{One, Two}
 use Rattle.grib.specs.declared.fault.ReadError.{ReadError}
-use Rattle.grib.specs.declared.fault.ReadError.TheVariants.{NoMessage, Refused, Memory}
+use Rattle.grib.specs.declared.fault.ReadError.TheVariants.{NoMessage, Refused, Memory, Source, TooLong}
 
 -- the octets begin with `GRIB`, and from there on with this message
 abbrev pub BeginsWith : List ℕ → Held → Type 0
@@ -21,6 +21,8 @@ abbrev pub IsReadError : List ℕ → ℕ → ReadError → Type 0
 IsReadError octets place NoMessage = begins octets ≡ false
 IsReadError octets place (Refused p fault) = (begins octets ≡ true) × (judge octets ≡ Faulty fault) × (p ≡ place)
 IsReadError octets place Memory = Unit {0}
+IsReadError octets place Source = ⊥
+IsReadError octets place TooLong = ⊥
 
 abbrev pub edition_of : Held → ℕ
 edition_of (One message) = 1

@@ -1,9 +1,9 @@
 use Rattle.std.proofs.Common.{map, ap, ◌∙◌}
 use Rattle.std.proofs.lemmas.List.{take_all}
 use Rattle.grib.specs.Exact.{nearest_number}
-use Rattle.grib.specs.Values.{value_at}
+use Rattle.grib.specs.Points.{value_at}
 use Rattle.grib.proofs.Mapped.{mapped_twice}
-use Rattle.grib.proofs.values.Values.numbers_of.Goals as goal
+use Rattle.grib.proofs.points.Points.numbers_of.Goals as goal
 
 pub returns : goal.returns
 returns c =

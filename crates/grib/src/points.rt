@@ -9,7 +9,7 @@ use std::alloc::{AllocError, Global};
 
 /// The values of the points of a field that are left, in the order of its grid. It holds 16 octets for each point.
 #[derive(Debug, Drop)]
-pub struct Values {
+pub struct Points {
     reference: Dyadic,
     column: Column,
     before: usize,
@@ -18,17 +18,17 @@ pub struct Values {
     ghost within: { before ≤ length column.points },
 }
 
-impl Values {
-    ghost use Rattle.grib.specs.Values.{values_left, values_of};
+impl Points {
+    ghost use Rattle.grib.specs.Points.{values_left, values_of};
 
     /// All values of a column with this reference value.
-    pub(crate) fn of(reference: Dyadic, column: Column) -> Values
+    pub(crate) fn of(reference: Dyadic, column: Column) -> Points
         requires small { nat_abs reference.mantissa < 2 ^ 24 }
         requires near { nat_abs reference.exponent ≤ 2 ^ 15 }
         ensures values { values_left result ≡ values_of reference column column.points }
         ensures count { length (values_left result) ≡ length column.points }
     {
-        Values {
+        Points {
             reference,
             column,
             before: 0,
@@ -36,9 +36,9 @@ impl Values {
     }
 }
 
-impl Values {
+impl Points {
     ghost use Rattle.grib.specs.Exact.{nearest_number};
-    ghost use Rattle.grib.specs.Values.{number_of, value_at, values_left, values_of};
+    ghost use Rattle.grib.specs.Points.{number_of, value_at, values_left, values_of};
 
     /// What a point of the column holds.
     fn value_of(&self, point: Point) -> Value
@@ -76,9 +76,9 @@ impl Values {
     }
 }
 
-impl Iterator for Values {
+impl Iterator for Points {
     ghost use Rattle.std.specs.Iterator.{YieldsFirstBy, item_count};
-    ghost use Rattle.grib.specs.Values.{values_left, number_of};
+    ghost use Rattle.grib.specs.Points.{values_left, number_of};
 
     type Item = Value;
 
@@ -93,7 +93,7 @@ impl Iterator for Values {
     }
 }
 
-impl ExactSizeIterator for Values {
+impl ExactSizeIterator for Points {
     fn len(&self) -> usize {
         self.column.points.as_slice().len() - self.before
     }

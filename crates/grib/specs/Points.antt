@@ -9,7 +9,7 @@ use Rattle.grib_packing.specs.declared.column.Column.{Column}
 use Rattle.grib.specs.Exact.{exact_of}
 use Rattle.grib.specs.declared.value.Value.{Value}
 use Rattle.grib.specs.declared.value.Value.TheVariants.{Number, Missing}
-use Rattle.grib.specs.declared.values.Values.{Values}
+use Rattle.grib.specs.declared.points.Points.{Points}
 
 -- the number, where there is one
 abbrev pub number_of : Value → Option Exact
@@ -26,5 +26,5 @@ abbrev pub values_of : Binary → Column → List Point → List (Option Exact)
 values_of reference column points = map (value_at reference column) points
 
 -- those that are still to come
-abbrev pub values_left : Values → List (Option Exact)
-values_left values = values_of values.reference values.column (drop values.before values.column.points)
+abbrev pub values_left : Points → List (Option Exact)
+values_left points = values_of points.reference points.column (drop points.before points.column.points)

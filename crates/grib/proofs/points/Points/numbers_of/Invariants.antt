@@ -1,7 +1,7 @@
 use Rattle.std.proofs.Common.{◌≡◌, map, take}
 use Rattle.grib.specs.Exact.{nearest_number}
-use Rattle.grib.specs.Values.{value_at}
-use Rattle.grib.proofs.values.Values.numbers_of.Given as goal
+use Rattle.grib.specs.Points.{value_at}
+use Rattle.grib.proofs.points.Points.numbers_of.Given as goal
 
 -- the numbers of the points so far
 abbrev pub invariant-loop-point : goal.invariant-loop-point

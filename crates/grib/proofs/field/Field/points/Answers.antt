@@ -3,9 +3,9 @@ use Rattle.grib_base.specs.declared.limits.TheConstants.{MOST_POINTS}
 use Rattle.grib_dyadic.specs.Reference.{ieee, ibm, reduced}
 use Rattle.grib.specs.Message.{field_of}
 use Rattle.grib.specs.Field.{values_in, point_count_in}
-use Rattle.grib.specs.Values.{values_left, values_of}
+use Rattle.grib.specs.Points.{values_left, values_of}
 use Rattle.grib.proofs.Held.{second_last, second_accepted}
-use Rattle.grib.proofs.field.Field.values.Goals as goal
+use Rattle.grib.proofs.field.Field.points.Goals as goal
 
 pub second_column-requires-clause-accepted : goal.second_column-requires-clause-accepted
 second_column-requires-clause-accepted c = second_accepted _ _ (sym c.held.ensures.held ∙ c.in-Two.is) c.held.ensures.accepted
