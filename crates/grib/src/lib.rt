@@ -10,8 +10,7 @@
 //!     let alloc = rt.alloc();
 //!     let mut reader = Reader::from_reader(alloc, rt.stdin());
 //!     while reader.advance()? {
-//!         let message = reader.message()?;
-//!         for field in message.fields() {
+//!         for field in reader.message()?.fields() {
 //!             for value in field.points(alloc)? {
 //!                 match value {
 //!                     Value::Number(exact) => println!(rt; "{}", exact.decimal(alloc, 2)?)?,
