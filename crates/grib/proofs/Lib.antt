@@ -1,3 +1,4 @@
+mod Alone
 mod Counts
 mod Ended
 mod Firsts

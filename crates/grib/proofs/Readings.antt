@@ -27,6 +27,7 @@ use Rattle.grib.specs.Messages.{Left, items_left, IsSize}
 use Rattle.grib.specs.Reading.{Reading, item_by, current, left_with, rest_of, behind, StandsAtNext, Advances, AdvancesOver, Adds, Keeps, Breaks}
 use Rattle.grib.proofs.Firsts.{left_of, items_searched, items_none, items_begin}
 use Rattle.grib.proofs.Settled.{judge_stays, passed_settled}
+use Rattle.grib.proofs.Truncated.{head_closed}
 
 -- ---- the octets and the counts
 
@@ -61,25 +62,6 @@ within_none octets place quota none few = record {
   few = omega (arith, few, ap length none);
   counted = λ going. absurd (false≢true (sym going));
 }
-
--- ---- the rows of Section 0, where sixteen octets are there
-
-same_closed : (f fault : Fault) → Some f ≡ Some fault → is_truncated f.reason ≡ false → is_truncated fault.reason ≡ false
-same_closed f fault is closed = let same : f ≡ fault = cc in subst (λ (g : Fault). is_truncated g.reason ≡ false) same closed
-
-closed_rows : (a b c d e : Bool) (t f u g h fault : Fault) → a ≡ false → c ≡ false → is_truncated f.reason ≡ false → is_truncated g.reason ≡ false → is_truncated h.reason ≡ false
-    → cond a (Some t) (cond b (Some f) (cond c (Some u) (cond d (Some g) (cond e (Some h) None)))) ≡ Some fault → is_truncated fault.reason ≡ false
-closed_rows true b c d e t f u g h fault off none ff gf hf is = absurd (false≢true (sym off))
-closed_rows false true c d e t f u g h fault off none ff gf hf is = same_closed f fault is ff
-closed_rows false false true d e t f u g h fault off none ff gf hf is = absurd (false≢true (sym none))
-closed_rows false false false true e t f u g h fault off none ff gf hf is = same_closed g fault is gf
-closed_rows false false false false true t f u g h fault off none ff gf hf is = same_closed h fault is hf
-closed_rows false false false false false t f u g h fault off none ff gf hf is = let no : ⊥ = cc in absurd no
-
-head_closed : (octets : List ℕ) (fault : Fault) → 16 ≤ length octets → first_fault (head_rows octets) ≡ Some fault → is_truncated fault.reason ≡ false
-head_closed octets fault long is =
-    closed_rows (nat_lt (length octets) 8) _ _ _ _ _ _ _ _ _ fault (le-ltb (length octets) 8 (omega (arith, long)))
-    (and_off (edition octets == 2) (nat_lt (length octets) 16) (le-ltb (length octets) 16 long)) refl refl refl is
 
 -- ---- what the exit of a `?` returns
 
@@ -358,3 +340,49 @@ module _ {S : Type 0} (left : S → Option (List ℕ)) where
       let none : after ≡ [] = subst IsAtEnd is_now (end now going) in
       let joined : before ≡ adv.taken ++ after = subst (λ (zs : Option (List ℕ)). Consumes (Some before) zs adv.taken) is_now (subst (λ (zs : Option (List ℕ)). Consumes zs (left b.source) adv.taken) is adv.takes.consumed) in
       subst (λ zs. StandsAtNext (items_left (left_with a zs)) (Ok found) (current b) (items_left (left_with b []))) (sym (joined ∙ ap (λ zs. adv.taken ++ zs) none)) (adv.items [] (λ _. refl)))
+
+  -- ---- going on
+
+  keeps_here : (a p f : Reading S) → a.size ≤ length a.ahead → p ≡ behind a a.size → Keeps left p f → Keeps left a f
+  keeps_here a p f within is kept = keeps_then a p f (subst (λ r. Keeps left a r) (sym is) (keeps_passed a within)) kept
+
+  -- to an item
+  pub goes_to : (a p f g new : Reading S) (size : ℕ) → a.size ≤ length a.ahead → p ≡ behind a a.size → Keeps left p f → Keeps left f g → g.size ≡ 0 → begins g.ahead ≡ true
+      → (g.ended ≡ true) ⊎ IsThere g.ahead → 4 ≤ size → size ≤ length g.ahead → IsSize g.ahead size (judge g.ahead) → new ≡ standing g size
+      → Advances left a new (Ok true) × AdvancesOver left a new (Ok true)
+  goes_to a p f g new size within is found gathered none begun there some fits sized now =
+      let kept : Keeps left a g = keeps_then a f g (keeps_here a p f within is found) gathered in
+      let adv : Advances left a (standing g size) (Ok true) = advances_some a g size kept none begun there some fits sized in
+      let both : Advances left a (standing g size) (Ok true) × AdvancesOver left a (standing g size) (Ok true) = (adv, told_ended a (standing g size) true adv kept.end) in
+      subst (λ r. Advances left a r (Ok true) × AdvancesOver left a r (Ok true)) (sym now) both
+
+  -- to the end
+  pub goes_out : (a p f new : Reading S) → a.size ≤ length a.ahead → p ≡ behind a a.size → Keeps left p f → f.size ≡ 0 → f.ended ≡ true → length f.ahead < 4 → new ≡ behind f (length f.ahead)
+      → Advances left a new (Ok false) × AdvancesOver left a new (Ok false)
+  goes_out a p f new within is found none ended few now =
+      let kept : Keeps left a f = keeps_here a p f within is found in
+      let last : Reading S = behind f (length f.ahead) in
+      let adv : Advances left a last (Ok false) = advances_none a f kept none ended few in
+      let both : Advances left a last (Ok false) × AdvancesOver left a last (Ok false) = (adv, told_ended a last false adv kept.end) in
+      subst (λ r. Advances left a r (Ok false) × AdvancesOver left a r (Ok false)) (sym now) both
+
+  -- or reading broke
+  pub goes_wrong : (a p c : Reading S) (error : ReadError) → a.size ≤ length a.ahead → p ≡ behind a a.size → Breaks left p c error
+      → Advances left a c (Err error) × AdvancesOver left a c (Err error)
+  goes_wrong a p c error within is broken =
+      let here : Keeps left a p = subst (λ r. Keeps left a r) (sym is) (keeps_passed a within) in
+      let adv : Advances left a c (Err error) = advances_broken a c error (breaks_after a p c error here broken) in (
+        adv,
+        told_broken a c error adv broken.ended,
+      )
+
+  pub goes_wrong_later : (a p f c : Reading S) (error : ReadError) → a.size ≤ length a.ahead → p ≡ behind a a.size → Keeps left p f → Breaks left f c error
+      → Advances left a c (Err error) × AdvancesOver left a c (Err error)
+  goes_wrong_later a p f c error within is found broken = goes_wrong a p c error within is (breaks_after p f c error found broken)
+
+  -- as its octets are shown
+  pub goes_shown : (a p f g new : Reading S) (size : ℕ) (shown : List ℕ) → shown ≡ g.ahead → a.size ≤ length a.ahead → p ≡ behind a a.size → Keeps left p f → Keeps left f g → g.size ≡ 0
+      → begins g.ahead ≡ true → (g.ended ≡ true) ⊎ IsThere g.ahead → 4 ≤ size → size ≤ length shown → IsSize shown size (judge shown) → new ≡ standing g size
+      → Advances left a new (Ok true) × AdvancesOver left a new (Ok true)
+  goes_shown a p f g new size shown same within is found gathered none begun there some fits sized now =
+      goes_to a p f g new size within is found gathered none begun there some (subst (λ xs. size ≤ length xs) same fits) (subst (λ xs. IsSize xs size (judge xs)) same sized) now

@@ -14,7 +14,7 @@ use Rattle.grib_stream.specs.Outcomes.{is_truncated}
 use Rattle.grib_items.specs.Next.{is_ended, passed_by, passed}
 use Rattle.grib_items.proofs.Heads.{passed_here, passed_stays, stated_long}
 use Rattle.grib_command.specs.Judging.{judged, judge}
-use Rattle.grib2_sections.specs.Verdict.{Refused}
+use Rattle.grib2_sections.specs.Verdict.{Verdict, Refused}
 use Rattle.grib1_sections.proofs.Stays.{refused_stays as first_refused_stays}
 use Rattle.grib2_message.proofs.Stays.{refused_stays}
 use Rattle.grib_dispatch.specs.Lawful.{IsFirst, IsOther, message_stays, other, not_first, same_edition, refusal_judged}
@@ -63,16 +63,23 @@ judged_by : (octets later : List ℕ) (j : Judgement) → 8 ≤ length octets �
 judged_by octets later (Message total) long is closed = message_stays Stated octets later total is
 judged_by octets later (Faulty fault) long is closed = refusal_stays octets later fault long is (closed fault refl)
 
+unless_is : (found : Option Fault) (head : Fault) (next : Unit {0} → Verdict) → found ≡ Some head → unless_refused found next ≡ Refused head
+unless_is found head next is = ap (λ f. unless_refused f next) is
+
+by_is : (found : Option Fault) (head : Fault) (later : Unit {0} → Option Fault) (total : ℕ) → found ≡ Some head → verdict_by (or_else found later) total ≡ Refused head
+by_is found head later total is = ap (λ f. verdict_by (or_else f later) total) is
+
+head_judged_by : (octets : List ℕ) (head : Fault) (b : Bool) → (edition octets == 1) ≡ b → first_fault (head_rows octets) ≡ Some head → judge octets ≡ Faulty head
+head_judged_by octets head true one refused =
+    let verdict : verdict_1 octets ≡ Refused head = by_is (first_fault (head_rows octets)) head (λ _. sections_fault octets) (total_length_1 octets) refused in
+    first_judged octets one ∙ ap judged verdict
+head_judged_by octets head false not_one refused =
+    let verdict : verdict_under Stated octets ≡ Refused head =
+    unless_is (first_fault (head_rows octets)) head (λ _. verdict_from Stated (length octets + 1) octets [] 17) refused in
+    other Stated octets not_one ∙ ap judged verdict
+
 head_judged : (octets : List ℕ) (head : Fault) → first_fault (head_rows octets) ≡ Some head → judge octets ≡ Faulty head
-head_judged octets head refused =
-    ⊎_elim
-    (λ one.
-    ap (λ b. choose b (λ _. judged (verdict_1 octets)) (λ _. judged (verdict_under Stated octets))) one
-    ∙ ap (λ f. judged (verdict_by (or_else f (λ _. sections_fault octets)) (total_length_1 octets))) refused)
-    (λ other.
-    ap (λ b. choose b (λ _. judged (verdict_1 octets)) (λ _. judged (verdict_under Stated octets))) other
-    ∙ ap (λ f. judged (unless_refused f (λ _. verdict_from Stated (length octets + 1) octets [] 17))) refused)
-    (cases_Bool (edition octets == 1))
+head_judged octets head refused = head_judged_by octets head (edition octets == 1) refl refused
 
 closed_there : (octets : List ℕ) → IsThere octets → (fault : Fault) → judge octets ≡ Faulty fault → is_truncated fault.reason ≡ false
 closed_there octets (inl (none, whole)) fault is = refused_whole octets fault none whole is

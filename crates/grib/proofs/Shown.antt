@@ -48,6 +48,14 @@ shown_here reading result some begun is =
     let item : Item = item_by reading.place reading.ahead reading.size (judge reading.ahead) in
     subst (λ b. Shows (cond {A = Option Item} b None (Some item)) result) (sym (ne_eqb reading.size 0 some)) (given_here reading.place reading.size reading.ahead result begun is)
 
+-- as its octets are shown
+pub shown_standing : {S : Type 0} (reading : Reading S) (result : Result Held ReadError) (octets : List ℕ) (place : ℕ) → octets ≡ reading.ahead → place ≡ reading.place → reading.size ≢ 0
+    → begins octets ≡ true → MatchResult result (BeginsWith octets) (IsReadError octets place) → Shows (current reading) result
+shown_standing reading result octets place same there some begun is =
+    let begun_there : begins reading.ahead ≡ true = subst (λ xs. begins xs ≡ true) same begun in
+    let moved : MatchResult result (BeginsWith reading.ahead) (IsReadError reading.ahead place) = subst (λ xs. MatchResult result (BeginsWith xs) (IsReadError xs place)) same is in
+    shown_here reading result some begun_there (subst (λ n. MatchResult result (BeginsWith reading.ahead) (IsReadError reading.ahead n)) there moved)
+
 -- ---- the first of what is left
 
 -- what is left behind the first item, of this many octets

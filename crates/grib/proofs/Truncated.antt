@@ -1,5 +1,5 @@
 -- Where as many octets are there as they state, none is refused for the end of the octets.
-use Rattle.std.proofs.Common.{◌≡◌, ◌≢◌, ℕ, zero, suc, ◌+◌, ◌-◌, ◌<◌, ◌≤◌, Bool, true, false, cond, not, ◌&&◌, ◌||◌, ◌==◌, nat_lt, Option, None, Some, List, [], ◌∷◌, length, refl, sym, ap, ◌∙◌, arith, subst, le-ltb, ltb-false, eq-eqb, ⊎_elim}
+use Rattle.std.proofs.Common.{◌≡◌, ◌≢◌, ℕ, zero, suc, ◌+◌, ◌-◌, ◌<◌, ◌≤◌, Bool, true, false, cond, not, ◌&&◌, ◌||◌, ◌==◌, nat_lt, Option, None, Some, List, [], ◌∷◌, length, refl, sym, ap, ◌∙◌, ◌⊎◌, inl, inr, arith, subst, le-ltb, ltb-false, eq-eqb, ⊎_elim}
 use Rattle.std.proofs.lemmas.Bool.{cases_Bool, false≢true, or_parts}
 use Rattle.grib_bits.specs.Octets.{octets}
 use Rattle.grib_base.specs.declared.profile.Profile.{Profile}
@@ -26,6 +26,7 @@ use Rattle.grib1_sections.proofs.Places.{grid_start-is, bitmap_start-is, data_st
 use Rattle.grib_stream.specs.Stream.{Faulty}
 use Rattle.grib_stream.specs.Outcomes.{is_truncated}
 use Rattle.grib_command.specs.Judging.{judge}
+use Rattle.grib_items.proofs.Heads.{and_off}
 use Rattle.grib_dispatch.specs.Lawful.{IsFirst, IsOther as IsOtherEdition, not_first, refusal_judged}
 use Rattle.grib_dispatch.proofs.HeardMessages.{not_truncated}
 use Rattle.grib2_message.proofs.Ways.{given}
@@ -38,9 +39,19 @@ row_off : (b : Bool) (fault : Fault) (later : Option Fault) → b ≡ false → 
 row_off true fault later off other = absurd (false≢true (sym off))
 row_off false fault later off other = other
 
-row_other : (b : Bool) (fault : Fault) (later : Option Fault) → fault.reason ≢ Truncated → (b ≡ false → IsOther later) → IsOther (cond b (Some fault) later)
-row_other true fault later other more = other
-row_other false fault later other more = more refl
+-- each row does not fail, or fails for another reason
+abbrev Passed : List Row → Type 0
+Passed [] = Unit {0}
+Passed (r ∷ rows) = ((r.fails ≡ false) ⊎ (is_truncated r.fault.reason ≡ false)) × (r.fails ≡ false → Passed rows)
+
+by_row : (b : Bool) (fault : Fault) (later : Option Fault) → (b ≡ false) ⊎ (is_truncated fault.reason ≡ false) → (b ≡ false → IsOther later) → IsOther (cond b (Some fault) later)
+by_row true fault later (inl off) more = absurd (false≢true (sym off))
+by_row true fault later (inr plain) more = λ e. false≢true (sym plain ∙ ap is_truncated e)
+by_row false fault later either more = more refl
+
+rows_passed : (rows : List Row) → Passed rows → IsOther (first_fault rows)
+rows_passed [] passed = tt
+rows_passed (r ∷ rows) passed = by_row r.fails r.fault (first_fault rows) passed.0 (λ off. rows_passed rows (passed.1 off))
 
 -- ---- edition 2
 
@@ -52,11 +63,18 @@ mark_other m total last q there =
 frame_other : (m : List ℕ) (total last q : ℕ) → q + 4 ≤ length m → total ≤ length m → IsOther (first_fault (frame_rows m total last q))
 frame_other m total last q there whole =
     let l : ℕ = octets m q (q + 3) in
-    row_off (nat_lt (length m) (q + 4)) _ _ (le-ltb (length m) (q + 4) there)
-    (row_other (nat_lt l 5 || nat_lt total (q - 1 + l + 4)) _ _ (λ e. cc) (λ fits.
-    row_other _ _ _ (λ e. cc) (λ follows.
-    let room : q - 1 + l + 4 ≤ total = ltb-false total (q - 1 + l + 4) (or_parts (nat_lt l 5) (nat_lt total (q - 1 + l + 4)) fits).1 in
-    row_off (nat_lt (length m) (q - 1 + l)) _ None (le-ltb (length m) (q - 1 + l) (omega arith)) tt)))
+    rows_passed (frame_rows m total last q) (
+      inl (le-ltb (length m) (q + 4) there),
+      λ _. (
+        inr refl,
+        λ fits. (
+          inr refl,
+          λ follows.
+              let room : q - 1 + l + 4 ≤ total = ltb-false total (q - 1 + l + 4) (or_parts (nat_lt l 5) (nat_lt total (q - 1 + l + 4)) fits).1 in
+              (inl (le-ltb (length m) (q - 1 + l) (omega arith)), λ _. tt),
+        ),
+      ),
+    )
 
 -- a step that refuses nothing for the end of the octets
 abbrev IsStep : Step → Type 0
@@ -143,31 +161,31 @@ section_1 : (m : List ℕ) (q least : ℕ) (rows : List ℕ → List Row) → q 
 section_1 m q least rows there whole other =
     let l : ℕ = octets m q (q + 2) in
     or_other (first_fault (frame_1_rows m q least)) (λ _. first_fault_at q (rows (section_1_at m q)))
-    (row_off (nat_lt (length m) (q + 2)) _ _ (le-ltb (length m) (q + 2) there)
-    (row_other (nat_lt l least || nat_lt (total_length_1 m) (q - 1 + l + 4)) _ _ (λ e. cc) (λ fits.
-    let room : q - 1 + l + 4 ≤ total_length_1 m = ltb-false (total_length_1 m) (q - 1 + l + 4) (or_parts (nat_lt l least) (nat_lt (total_length_1 m) (q - 1 + l + 4)) fits).1 in
-    row_off (nat_lt (length m) (q - 1 + l)) _ None (le-ltb (length m) (q - 1 + l) (omega arith)) tt)))
+    (rows_passed (frame_1_rows m q least) (
+      inl (le-ltb (length m) (q + 2) there),
+      λ _. (
+        inr refl,
+        λ fits.
+            let room : q - 1 + l + 4 ≤ total_length_1 m = ltb-false (total_length_1 m) (q - 1 + l + 4) (or_parts (nat_lt l least) (nat_lt (total_length_1 m) (q - 1 + l + 4)) fits).1 in
+            (inl (le-ltb (length m) (q - 1 + l) (omega arith)), λ _. tt),
+      ),
+    ))
     (λ none. located_other q (first_fault (rows (section_1_at m q))) other)
 
 identification_other : (s : List ℕ) → IsOther (first_fault (identification_rows s))
-identification_other s = row_other _ _ _ (λ e. cc) (λ _. tt)
+identification_other s = rows_passed (identification_rows s) (inr refl, λ _. tt)
 
 grid_other : (s : List ℕ) → IsOther (first_fault (grid_rows s))
-grid_other s =
-    row_other _ _ _ (λ e. cc) (λ _. row_other _ _ _ (λ e. cc) (λ _. row_other _ _ _ (λ e. cc) (λ _. row_other _ _ _ (λ e. cc) (λ _.
-    row_other _ _ _ (λ e. cc) (λ _. row_other _ _ _ (λ e. cc) (λ _. row_other _ _ _ (λ e. cc) (λ _. tt)))))))
+grid_other s = rows_passed (grid_rows s) (inr refl, λ _. (inr refl, λ _. (inr refl, λ _. (inr refl, λ _. (inr refl, λ _. (inr refl, λ _. (inr refl, λ _. tt)))))))
 
 bitmap_other : (points : ℕ) (s : List ℕ) → IsOther (first_fault (bitmap_rows points s))
-bitmap_other points s = row_other _ _ _ (λ e. cc) (λ _. row_other _ _ _ (λ e. cc) (λ _. tt))
+bitmap_other points s = rows_passed (bitmap_rows points s) (inr refl, λ _. (inr refl, λ _. tt))
 
 data_other : (present : ℕ) (s : List ℕ) → IsOther (first_fault (data_rows present s))
-data_other present s =
-    row_other _ _ _ (λ e. cc) (λ _. row_other _ _ _ (λ e. cc) (λ _. row_other _ _ _ (λ e. cc) (λ _. row_other _ _ _ (λ e. cc) (λ _.
-    row_other _ _ _ (λ e. cc) (λ _. tt)))))
+data_other present s = rows_passed (data_rows present s) (inr refl, λ _. (inr refl, λ _. (inr refl, λ _. (inr refl, λ _. (inr refl, λ _. tt)))))
 
 end_other_1 : (m : List ℕ) (q : ℕ) → q + 3 ≤ length m → IsOther (first_fault (end_rows m q))
-end_other_1 m q there =
-    row_off (nat_lt (length m) (q + 3)) _ _ (le-ltb (length m) (q + 3) there) (row_other _ _ _ (λ e. cc) (λ _. row_other _ _ _ (λ e. cc) (λ _. tt)))
+end_other_1 m q there = rows_passed (end_rows m q) (inl (le-ltb (length m) (q + 3) there), λ _. (inr refl, λ _. (inr refl, λ _. tt)))
 
 -- the bitmap, where it is flagged, and where Section 4 then begins
 bitmap_section : (m : List ℕ) (b : Bool) → has_bitmap m ≡ b → bitmap_start m + 3 ≤ total_length_1 m → total_length_1 m ≤ length m → IsOther (bitmap_fault m)
@@ -249,3 +267,12 @@ refused_whole m fault none whole is =
     let stated : (head_of m).total ≡ total_length m = total_second m two.other_edition in
     not_truncated fault.reason (second_whole Stated m fault (not_first m two.other_edition) none (omega (arith, stated, whole)) two.verdict_is))
     (refusal_judged Stated m fault is)
+
+-- ---- the rows of Section 0, where sixteen octets are there
+
+pub head_closed : (octets : List ℕ) (fault : Fault) → 16 ≤ length octets → first_fault (head_rows octets) ≡ Some fault → is_truncated fault.reason ≡ false
+head_closed octets fault long is =
+    let few : nat_lt (length octets) 8 ≡ false = le-ltb (length octets) 8 (omega (arith, long)) in
+    let whole : (edition octets == 2 && nat_lt (length octets) 16) ≡ false = and_off (edition octets == 2) (nat_lt (length octets) 16) (le-ltb (length octets) 16 long) in
+    let other : IsOther (first_fault (head_rows octets)) = rows_passed (head_rows octets) (inl few, λ _. (inr refl, λ _. (inl whole, λ _. (inr refl, λ _. (inr refl, λ _. tt))))) in
+    not_truncated fault.reason (other_reason (first_fault (head_rows octets)) fault other is)

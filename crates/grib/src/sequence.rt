@@ -97,14 +97,16 @@ impl<'a> Iterator for MessageIter<'a> {
                 self.skip(message.octets().len());
                 Some(Ok(message))
             }
-            Err(ReadError::Memory) => {
-                self.skip(self.left.len());
-                Some(Err(ReadError::Memory))
-            }
-            Err(error) => {
-                self.skip(octets_of_first(self.left));
-                Some(Err(error))
-            }
+            Err(error) => match error {
+                ReadError::Memory => {
+                    self.skip(self.left.len());
+                    Some(Err(error))
+                }
+                _ => {
+                    self.skip(octets_of_first(self.left));
+                    Some(Err(error))
+                }
+            },
         }
     }
 }
