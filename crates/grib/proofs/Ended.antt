@@ -1,9 +1,8 @@
 -- A message that is accepted has `7777` at its stated end, so that it is skipped by as many octets as it has.
-use Rattle.std.proofs.Common.{◌≡◌, ℕ, ◌+◌, ◌-◌, ◌<◌, ◌≤◌, Bool, true, false, cond, All, Some, List, ◌++◌, length, take, drop, refl, sym, ap, ◌∙◌, arith, drop_at, length-append, length-take-le, ⊎_elim}
+use Rattle.std.proofs.Common.{◌≡◌, ℕ, ◌+◌, ◌-◌, ◌<◌, ◌≤◌, Bool, true, false, All, Some, List, ◌++◌, length, take, drop, refl, sym, ap, ◌∙◌, arith, drop_at, length-append, length-take-le, ⊎_elim}
 use Rattle.std.proofs.lemmas.List.Elements.{All-take}
 use Rattle.std.proofs.lemmas.Slice.Eq.{bytes_eq-Decides}
 use Rattle.std.specs.List.{concat}
-use Rattle.std.specs.Str.{bytes_eq}
 use Rattle.grib_base.specs.declared.profile.Profile.TheVariants.{Stated}
 use Rattle.grib2_sections.specs.Head.{end_mark}
 use Rattle.grib2_sections.specs.Verdict.{Accepted}
@@ -15,7 +14,7 @@ use Rattle.grib_stream.proofs.Streams.{begins_is}
 use Rattle.grib_items.specs.Next.{is_ended, passed}
 use Rattle.grib_items.proofs.Heads.{passed_here}
 use Rattle.grib_command.specs.Judging.{judge}
-use Rattle.grib_dispatch.specs.Lawful.{IsFirst, IsOther, not_first, message_judged, least_message, there_message}
+use Rattle.grib_dispatch.specs.Lawful.{IsFirst, IsOther, not_first, message_judged, there_message}
 use Rattle.grib_dispatch.specs.Stated.{states}
 use Rattle.grib.specs.Messages.{IsSize}
 

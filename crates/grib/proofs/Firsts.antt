@@ -1,16 +1,14 @@
 -- The first item of octets, and what is left behind it.
-use Rattle.std.proofs.Common.{◌≡◌, ℕ, zero, suc, ◌+◌, ◌-◌, ◌<◌, ◌≤◌, Bool, true, false, cond, Option, None, Some, List, [], ◌∷◌, ◌++◌, length, take, drop, refl, sym, ap, ◌∙◌, arith, append-nil, length-drop, length-append, ⊎_elim}
-use Rattle.std.proofs.lemmas.Bool.{cases_lt, false≢true}
-use Rattle.std.proofs.lemmas.List.{take-append-le, drop_all}
+use Rattle.std.proofs.Common.{◌≡◌, ℕ, zero, suc, ◌+◌, ◌-◌, ◌<◌, ◌≤◌, Bool, true, false, cond, List, [], ◌∷◌, ◌++◌, length, take, drop, refl, ap, ◌∙◌, arith, length-drop, length-append}
+use Rattle.std.proofs.lemmas.Bool.{false≢true}
+use Rattle.std.proofs.lemmas.List.{drop_all}
 use lib.Seq.{drop-append-le}
-use Rattle.grib_base.specs.declared.fault.Fault.{Fault}
 use Rattle.grib_base.specs.Rows.{choose}
 use Rattle.grib_stream.specs.Stream.{begins, Judgement, Message, Faulty, message_after}
 use Rattle.grib_stream.specs.Searching.{Markless, Unmarked}
-use Rattle.grib_stream.proofs.Streams.{begun_stays, begins_long, none_in_few, markless_more}
-use Rattle.grib_items.specs.Next.{Next, Accepts, Passes, Refuses, Unknown, next, next_judged, next_passed, passed}
-use Rattle.grib_items.specs.Items.{Item, Accepted, Refused, passed_after, Items, on_next, followed_by, items_from}
-use Rattle.grib_items.proofs.Heads.{passed_size}
+use Rattle.grib_stream.proofs.Streams.{none_in_few, markless_more}
+use Rattle.grib_items.specs.Next.{Next, Accepts, Passes, Refuses, Unknown, next, next_judged, next_passed}
+use Rattle.grib_items.specs.Items.{Accepted, Refused, passed_after, Items, on_next, items_from}
 use Rattle.grib_command.specs.Judging.{judge}
 use Rattle.grib.specs.Messages.{Left, items_left, IsSize}
 use Rattle.grib.specs.Reading.{item_by}

@@ -1,30 +1,28 @@
 -- What a reader has, one step after another.
-use Rattle.std.proofs.Common.{◌≡◌, ◌≢◌, ℕ, zero, suc, ◌+◌, ◌-◌, ◌^◌, ◌<◌, ◌≤◌, ◌==◌, ◌⊎◌, inl, inr, Bool, true, false, cond, Option, None, Some, Ok, Err, List, [], ◌∷◌, ◌++◌, length, take, drop, refl, sym, ap, ◌∙◌, arith, subst, append-nil, append_assoc, length-append, length-drop, ⊎_elim, IfSome, ne_eqb, nat_lt, le-ltb}
+use Rattle.std.proofs.Common.{◌≡◌, ℕ, ◌+◌, ◌^◌, ◌<◌, ◌≤◌, ◌==◌, ◌⊎◌, inl, inr, Bool, true, false, cond, Option, None, Some, Ok, Err, List, [], ◌∷◌, ◌++◌, length, drop, refl, sym, ap, ◌∙◌, arith, subst, append-nil, append_assoc, length-append, length-drop, ⊎_elim, IfSome, ne_eqb}
 use Rattle.std.proofs.lemmas.Bool.{cases_Bool, false≢true}
 use Rattle.std.proofs.lemmas.List.{take-append-le, drop_all}
 use Rattle.std.specs.declared.result.Result.{Result}
 use Rattle.std.specs.Io.KnownBytes.{Consumes, IsAtEnd}
 use lib.Seq.{drop-append-le}
-use Rattle.grib_stream.specs.Reading.{Takes, Gathers}
+use Rattle.grib_stream.specs.Reading.{Gathers}
 use Rattle.grib_stream.specs.Searching.{Unmarked}
 use Rattle.grib_stream.specs.Stream.{begins, Judgement, Message, Faulty, message_after}
 use Rattle.grib_stream.proofs.Streams.{begun_stays}
 use Rattle.grib_stream.proofs.Windows.{takes_none, takes_more}
 use Rattle.grib_items.specs.Items.{Item, Accepted, Refused, passed_after}
-use Rattle.grib_items.specs.Next.{passed}
-use Rattle.grib_items.proofs.Heads.{stated_stays, and_off}
-use Rattle.grib_stream.specs.Outcomes.{is_truncated}
+use Rattle.grib_items.proofs.Heads.{stated_stays}
 use Rattle.grib_base.specs.Rows.{first_fault}
 use Rattle.grib_base.specs.declared.fault.Fault.{Fault}
-use Rattle.grib2_sections.specs.Head.{edition, head_rows, head_of}
+use Rattle.grib2_sections.specs.Head.{head_rows, head_of}
 use Rattle.std.specs.Result.{IsErrAnd}
 use Rattle.grib_command.specs.Judging.{judge}
 use Rattle.grib.specs.declared.fault.ReadError.{ReadError}
 use Rattle.grib.specs.declared.fault.ReadError.TheVariants.{TooLong}
 use Rattle.grib.specs.There.{IsThere}
 use Rattle.grib.specs.Within.{IsWithin}
-use Rattle.grib.specs.Messages.{Left, items_left, IsSize}
-use Rattle.grib.specs.Reading.{Reading, item_by, current, left_with, rest_of, behind, StandsAtNext, Advances, AdvancesOver, Adds, Keeps, Breaks}
+use Rattle.grib.specs.Messages.{items_left, IsSize}
+use Rattle.grib.specs.Reading.{Reading, item_by, current, left_with, behind, StandsAtNext, Advances, AdvancesOver, Adds, Keeps, Breaks}
 use Rattle.grib.proofs.Firsts.{left_of, items_searched, items_none, items_begin}
 use Rattle.grib.proofs.Settled.{judge_stays, passed_settled}
 use Rattle.grib.proofs.Truncated.{head_closed}

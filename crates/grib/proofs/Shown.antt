@@ -1,15 +1,15 @@
 -- What is given of an item, by what was read from its `GRIB` on.
-use Rattle.std.proofs.Common.{◌≡◌, ◌≢◌, ℕ, ◌+◌, ◌<◌, ◌≤◌, ◌==◌, Bool, true, false, cond, Some, None, Ok, Err, List, [], ◌∷◌, length, take, drop, refl, sym, ap, ◌∙◌, subst, arith, length-drop, ne_eqb}
+use Rattle.std.proofs.Common.{◌≡◌, ◌≢◌, ℕ, ◌+◌, ◌≤◌, true, cond, Some, None, Ok, Err, List, [], ◌∷◌, length, take, drop, refl, sym, ap, ◌∙◌, subst, arith, length-drop, ne_eqb}
 use Rattle.std.proofs.lemmas.Bool.{false≢true}
 use Rattle.std.specs.declared.result.Result.{Result}
 use Rattle.std.specs.declared.option.Option.{Option}
 use Rattle.std.specs.Result.{MatchResult}
 use Rattle.std.specs.Iterator.{MakesProgress, at_most}
 use Rattle.grib_base.specs.declared.profile.Profile.TheVariants.{Stated}
-use Rattle.grib_stream.specs.Stream.{begins, Judgement, Message, Faulty, message_after}
+use Rattle.grib_stream.specs.Stream.{begins, message_after}
 use Rattle.grib_items.specs.Items.{Item, Accepted, Refused, passed_after}
 use Rattle.grib_command.specs.Judging.{judge}
-use Rattle.grib_dispatch.specs.Lawful.{least_message, there_message}
+use Rattle.grib_dispatch.specs.Lawful.{least_message}
 use Rattle.grib_dispatch.specs.Reading.{Holds, held_octets}
 use Rattle.grib_dispatch.specs.declared.reading.Held.{Held}
 use Rattle.grib.specs.declared.fault.ReadError.{ReadError}

@@ -1,6 +1,6 @@
 -- Where as many octets are there as they state, none is refused for the end of the octets.
-use Rattle.std.proofs.Common.{◌≡◌, ◌≢◌, ℕ, zero, suc, ◌+◌, ◌-◌, ◌<◌, ◌≤◌, Bool, true, false, cond, not, ◌&&◌, ◌||◌, ◌==◌, nat_lt, Option, None, Some, List, [], ◌∷◌, length, refl, sym, ap, ◌∙◌, ◌⊎◌, inl, inr, arith, subst, le-ltb, ltb-false, eq-eqb, ⊎_elim}
-use Rattle.std.proofs.lemmas.Bool.{cases_Bool, false≢true, or_parts}
+use Rattle.std.proofs.Common.{◌≡◌, ◌≢◌, ℕ, zero, suc, ◌+◌, ◌-◌, ◌<◌, ◌≤◌, Bool, true, false, cond, not, ◌&&◌, ◌==◌, nat_lt, Option, None, Some, List, [], ◌∷◌, length, refl, sym, ap, ◌∙◌, ◌⊎◌, inl, inr, arith, subst, le-ltb, ltb-false, eq-eqb, ⊎_elim}
+use Rattle.std.proofs.lemmas.Bool.{false≢true, or_parts}
 use Rattle.grib_bits.specs.Octets.{octets}
 use Rattle.grib_base.specs.declared.profile.Profile.{Profile}
 use Rattle.grib_base.specs.declared.profile.Profile.TheVariants.{Stated}
@@ -14,7 +14,7 @@ use Rattle.grib2_sections.specs.Frame.{Placed, placed_at, section_at, ends_at, m
 use Rattle.grib2_message.specs.View.{last_number}
 use Rattle.grib2_message.specs.Acceptance.{section_fault_under, unless_refused, verdict_at, verdict_from, verdict_under}
 use Rattle.grib2_message.proofs.Passed.{passes_from_none}
-use Rattle.grib2_message.proofs.Walk.{mark_passes, frame_passes, stands}
+use Rattle.grib2_message.proofs.Walk.{stands}
 use Rattle.grib1_sections.specs.Frame.{frame_rows as frame_1_rows, section_at as section_1_at, end_rows}
 use Rattle.grib1_sections.specs.Identification.{identification_rows}
 use Rattle.grib1_sections.specs.Grid.{grid_rows}

@@ -5,7 +5,6 @@ use Rattle.grib_keys.specs.declared.condition.Value.{Value}
 use Rattle.grib1_sections.specs.declared.key.Key1.{Key1}
 use Rattle.grib.specs.declared.keys.Keys.{Keys}
 use Rattle.grib.specs.declared.keys.Keys1.{Keys1}
-use Rattle.grib.specs.Message.{FieldOf}
 use Rattle.grib.specs.Field.{shown, key_in, key1_in}
 
 -- a key with its value, where the field has it, before others

@@ -1,12 +1,11 @@
 -- A message of either edition, its fields, and why octets begin with none.
-use Rattle.std.specs.Prelude.{◌≡◌, ℕ, true, false, Option, None, Some, List, map, length, take}
+use Rattle.std.specs.Prelude.{◌≡◌, ℕ, true, false, Option, None, Some, List, map}
 use Rattle.std.specs.List.{range_with_len}
-use Rattle.grib_base.specs.declared.fault.Fault.{Fault}
 use Rattle.grib_base.specs.declared.profile.Profile.TheVariants.{Stated}
 use Rattle.grib_stream.specs.Stream.{Faulty, begins}
 use Rattle.grib2_message.specs.Fields.{field_count}
 use Rattle.grib_command.specs.Judging.{judge}
-use Rattle.grib_dispatch.specs.Reading.{Holds, held_octets}
+use Rattle.grib_dispatch.specs.Reading.{Holds}
 use Rattle.grib_dispatch.specs.declared.reading.Held.{Held}
 use Rattle.grib_dispatch.specs.declared.reading.Held.TheVariants.{One, Two}
 use Rattle.grib.specs.declared.fault.ReadError.{ReadError}

@@ -1,5 +1,5 @@
 -- The values of the points of a field, of which both marks of missing are one.
-use Rattle.std.specs.Prelude.{ℕ, Option, None, Some, List, map, drop}
+use Rattle.std.specs.Prelude.{Option, None, Some, List, map, drop}
 use Rattle.grib_bits.specs.Bits.{bits_of, signed}
 use Rattle.grib_dyadic.specs.Reference.{Binary}
 use Rattle.grib_dyadic.specs.Value.{Exact, value_of}

@@ -1,5 +1,5 @@
 -- The messages of an input that comes in pieces.
-use Rattle.std.specs.Prelude.{◌≡◌, ◌≢◌, ℕ, ◌+◌, ◌-◌, ◌^◌, ◌==◌, cond, Bool, true, false, Option, None, Some, Result, Ok, Err, List, [], ◌∷◌, ◌++◌, ◌≤◌, ◌⊎◌, length, take, drop, IfSome, MatchResult}
+use Rattle.std.specs.Prelude.{◌≡◌, ℕ, ◌+◌, ◌-◌, ◌^◌, ◌==◌, cond, Bool, true, false, Option, None, Some, Result, Ok, Err, List, [], ◌∷◌, ◌++◌, ◌≤◌, ◌⊎◌, length, take, drop, IfSome, MatchResult}
 use Rattle.std.specs.Io.KnownBytes.{IsAtEnd}
 use Rattle.grib_io.specs.Outside.{Counted}
 use Rattle.grib_stream.specs.Reading.{Takes}

@@ -1,4 +1,4 @@
-use Rattle.std.proofs.Common.{◌≡◌, List, ℕ, MatchResult, ◌∙◌, subst}
+use Rattle.std.proofs.Common.{List, ℕ, MatchResult, ◌∙◌, subst}
 use Rattle.grib_base.specs.declared.profile.Profile.TheVariants.{Stated}
 use Rattle.grib2_sections.specs.Refused.{IsVerdict}
 use Rattle.grib2_message.specs.Acceptance.{verdict_under}

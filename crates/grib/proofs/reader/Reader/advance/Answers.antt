@@ -1,4 +1,4 @@
-use Rattle.std.proofs.Common.{◌≡◌, ◌≤◌, true, false, Ok, length, ap, ◌∙◌, arith}
+use Rattle.std.proofs.Common.{◌≡◌, ◌≤◌, length, ap, ◌∙◌, arith}
 use Rattle.grib.specs.Reading.{Advances, AdvancesOver, behind}
 use Rattle.grib.proofs.Readings.{passed_on, standing, goes_shown, goes_out, goes_wrong, goes_wrong_later}
 use Rattle.grib.proofs.reader.Reader.advance.Goals as goal
