@@ -22,7 +22,7 @@ use Rattle.grib.specs.declared.fault.ReadError.TheVariants.{TooLong}
 use Rattle.grib.specs.There.{IsThere}
 use Rattle.grib.specs.Within.{IsWithin}
 use Rattle.grib.specs.Messages.{items_left, IsSize}
-use Rattle.grib.specs.Reading.{Reading, item_by, current, left_with, behind, StandsAtNext, Advances, AdvancesOver, Adds, Keeps, Breaks}
+use Rattle.grib.specs.Reading.{Reading, item_by, current, left_with, behind, StandsAtNext, Advances, AdvancesOver, Adds, Keeps, Breaks, turns_left}
 use Rattle.grib.proofs.Firsts.{left_of, items_searched, items_none, items_begin}
 use Rattle.grib.proofs.Settled.{judge_stays, passed_settled}
 use Rattle.grib.proofs.Truncated.{head_closed}
@@ -119,6 +119,7 @@ module _ {S : Type 0} (left : S → Option (List ℕ)) where
     end = λ ended going. absurd (false≢true (sym going ∙ ended));
     items = λ later ends. refl;
     count = omega arith;
+    on = omega arith;
   }
 
   pub keeps_then : (a b c : Reading S) → Keeps left a b → Keeps left b c → Keeps left a c
@@ -141,6 +142,7 @@ module _ {S : Type 0} (left : S → Option (List ℕ)) where
         ap (λ xs. xs ++ later) two.2 ∙ ends two.1)
         ∙ second.items later ends);
     count = omega (arith, first.count, second.count, length-append first.taken second.taken);
+    on = omega (arith, first.on, second.on);
   }
 
   pub breaks_after : (a b c : Reading S) (error : ReadError) → Keeps left a b → Breaks left b c error → Breaks left a c error
@@ -169,6 +171,7 @@ module _ {S : Type 0} (left : S → Option (List ℕ)) where
     end = λ ended going. absurd (false≢true (sym going ∙ ended));
     items = λ later ends. left_at a later none ∙ (items_searched a.place n a.ahead later unmarked within ∙ sym (left_at (behind a n) later refl));
     count = omega (arith, length-drop n a.ahead, within);
+    on = omega arith;
   }
 
   -- and behind the item at which it stood
@@ -180,6 +183,7 @@ module _ {S : Type 0} (left : S → Option (List ℕ)) where
     end = λ ended going. absurd (false≢true (sym going ∙ ended));
     items = λ later ends. sym (left_at (behind a a.size) later refl);
     count = omega (arith, length-drop a.size a.ahead, within);
+    on = omega arith;
   }
 
   pub keeps_added : (a b : Reading S) (wanted : ℕ) → a.size ≡ 0 → Adds left a b wanted → Keeps left a b
@@ -193,6 +197,7 @@ module _ {S : Type 0} (left : S → Option (List ℕ)) where
         ∙ (ap (λ xs. items_left (left_of xs a.place)) (sym (append_assoc a.ahead added.taken later) ∙ ap (λ xs. xs ++ later) (sym added.ahead))
         ∙ (ap (λ p. items_left (left_of (b.ahead ++ later) p)) (sym added.place) ∙ sym (left_at b later added.size)));
     count = omega (arith, added.place, ap length added.ahead, length-append a.ahead added.taken);
+    on = omega (arith, added.place);
   }
 
   -- behind octets in which none begins, as they are shown
@@ -384,3 +389,10 @@ module _ {S : Type 0} (left : S → Option (List ℕ)) where
       → Advances left a new (Ok true) × AdvancesOver left a new (Ok true)
   goes_shown a p f g new size shown same within is found gathered none begun there some fits sized now =
       goes_to a p f g new size within is found gathered none begun there some (subst (λ xs. size ≤ length xs) same fits) (subst (λ xs. IsSize xs size (judge xs)) same sized) now
+
+  -- an item is nearer to the end
+  pub goes_nearer : (a p f g : Reading S) (size : ℕ) → IsWithin a.ahead a.size a.place a.quota a.ended → p ≡ behind a a.size → Keeps left p f → Keeps left f g → 4 ≤ size
+      → turns_left (standing g size) < turns_left a
+  goes_nearer a p f g size within is found gathered some =
+      let passed : p.place ≡ a.place + a.size = ap (λ r. r.place) is in
+      omega (arith, within.there, within.few, passed, found.on, gathered.on, some)

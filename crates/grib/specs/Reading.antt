@@ -91,6 +91,10 @@ behind reading count = record {
   ended = reading.ended;
 }
 
+-- how many octets may still stand behind the item at which it stands, as a number that falls with each item
+abbrev pub turns_left : {S : Type 0} → Reading S → ℕ
+turns_left reading = 2 ^ 64 - (reading.place + reading.size)
+
 -- ---- within a call
 
 -- how often it can still read, as a number
@@ -117,6 +121,7 @@ pub record Keeps {S : Type 0} (left : S → Option (List ℕ)) (old new : Readin
   pub end : new.ended ≡ true → old.ended ≡ false → IsAtEnd (left new.source)
   pub items : (later : List ℕ) → (new.ended ≡ true → later ≡ []) → items_left (left_with old (taken ++ later)) ≡ items_left (left_with new later)
   pub count : new.place + length new.ahead ≡ old.place + length old.ahead + length taken
+  pub on : old.place ≤ new.place
 
 -- reading broke, and nothing is left
 pub record Breaks {S : Type 0} (left : S → Option (List ℕ)) (old new : Reading S) (error : ReadError) : Type 0 where

@@ -1,8 +1,8 @@
 //! The messages of an input that comes in pieces, one after the other.
 
-ghost use Rattle.std.specs.Prelude.{◌≡◌, ◌≢◌, ◌+◌, ◌-◌, ◌^◌, ◌<◌, ◌≤◌, ◌⊎◌, true, false, [], Ok, Err, length, IfOk, OnOk, IfErr};
+ghost use Rattle.std.specs.Prelude.{◌≡◌, ◌≢◌, ◌+◌, ◌-◌, ◌^◌, ◌<◌, ◌≤◌, ◌⊎◌, true, false, [], Ok, Err, length, IsTrue, IfOk, OnOk, IfErr};
 ghost use Rattle.grib_stream.specs.Stream.{begins};
-ghost use Rattle.grib.specs.Reading.{Adds, Advances, AdvancesOver, Breaks, Keeps, Shows, CountsFaults, behind, current, starting};
+ghost use Rattle.grib.specs.Reading.{Adds, Advances, AdvancesOver, Breaks, Keeps, Shows, CountsFaults, behind, current, starting, turns_left};
 ghost use Rattle.grib.specs.There.{IsThere};
 
 use crate::sequence::octets_of_first;
@@ -88,10 +88,13 @@ impl<S: Source> Reader<S> {
     ///
     /// The source failed, there is no memory, or the input is longer than 18,446,744,073,709,551,615 octets. After an
     /// error nothing comes.
+    ///
+    /// A loop over it ends: `turns_left` falls with each message, and is the measure of such a loop.
     pub fn advance(&mut self) -> Result<bool, ReadError>
         ensures taken { Advances S.left self.old self.new result }
         ensures told { AdvancesOver S.left self.old self.new result }
         ensures counted { CountsFaults result (S.faults self.old.source) (S.faults self.new.source) }
+        ensures nearer { IfOk result (λ some. IsTrue some → turns_left self.new < turns_left self.old) }
     {
         let size = self.size;
         self.pass(size);

@@ -1,6 +1,7 @@
-use Rattle.std.proofs.Common.{◌≡◌, ◌≤◌, length, ap, ◌∙◌, arith}
-use Rattle.grib.specs.Reading.{Advances, AdvancesOver, behind}
-use Rattle.grib.proofs.Readings.{passed_on, standing, goes_shown, goes_out, goes_wrong, goes_wrong_later}
+use Rattle.std.proofs.Common.{◌<◌, sym, subst, ◌≡◌, ◌≤◌, length, ap, ◌∙◌, arith}
+use Rattle.grib.specs.Reading.{Advances, AdvancesOver, behind, turns_left}
+use Rattle.grib.specs.Within.{IsWithin}
+use Rattle.grib.proofs.Readings.{passed_on, standing, goes_shown, goes_out, goes_wrong, goes_wrong_later, goes_nearer}
 use Rattle.grib.proofs.reader.Reader.advance.Goals as goal
 
 pub returns-in_err-find_mark-clause-told : goal.returns-in_err-find_mark-clause-told
@@ -82,3 +83,13 @@ returns-clause-told g c =
     let sized = c.octets_of_first-self-inside.ensures in
     (goes_shown left a c.pass.new.self c.find_mark.new.self m _ size c.as_slice.result.now (c.as_slice.ensures ∙ ap (λ r. r.ahead) c.self-2.view_is) fits passed found.keeps gathered.keeps gathered.none
     gathered.begun gathered.there sized.some sized.within sized.size (ap (λ r. standing left r size) c.self-2.view_is)).1
+
+pub returns-clause-nearer : goal.returns-clause-nearer
+returns-clause-nearer g c = λ _.
+    let left = g.S.Source.left in
+    let a = c.args.self.now in
+    let size = c.octets_of_first-self-inside.result in
+    let passed : c.pass.new.self ≡ behind a a.size = c.pass.ensures ∙ ap (λ n. behind a n) (ap (λ r. r.size) c.self.view_is) in
+    subst (λ r. turns_left (standing left r size) < turns_left a) (sym c.self-2.view_is)
+    (goes_nearer left a c.pass.new.self c.find_mark.new.self c.gather_message.new.self size (subst (λ r. IsWithin r.ahead r.size r.place r.quota r.ended) c.self.view_is c.self.invariant) passed
+    c.in_ok-find_mark.ensures.keeps c.in_ok-gather_message.ensures.keeps c.octets_of_first-self-inside.ensures.some)
