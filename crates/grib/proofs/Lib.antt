@@ -1,6 +1,13 @@
+mod Alone
 mod Counts
+mod Ended
+mod Firsts
 mod Held
+mod Listed
 mod Mapped
-mod Marks
+mod Readings
+mod Settled
+mod Shown
 mod Steps
 mod Texts
+mod Truncated

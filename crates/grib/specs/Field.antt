@@ -1,11 +1,11 @@
 -- What a field of either edition holds.
-use Rattle.std.specs.Prelude.{◌≡◌, ℕ, true, Option, None, Some, List}
+use Rattle.std.specs.Prelude.{◌≡◌, ℕ, ℤ, true, Option, None, Some, List}
 use Rattle.grib_dyadic.specs.Reference.{Binary, ieee, ibm, reduced}
 use Rattle.grib_keys.specs.declared.key.Key.{Key}
 use Rattle.grib_keys.specs.declared.condition.Value.{Value as KeyValue}
 use Rattle.grib_packing.specs.declared.column.Column.{Column}
 use Rattle.grib1_sections.specs.declared.key.Key1.{Key1}
-use Rattle.grib1_sections.specs.Keys.{key1_of}
+use Rattle.grib1_sections.specs.Keys.{number1_of}
 use Rattle.grib1_sections.specs.Column.{column1_of}
 use Rattle.grib1_sections.specs.Acceptance.{points_of}
 use Rattle.grib2_grids.specs.Grid.{grid_points}
@@ -23,7 +23,7 @@ use Rattle.grib_dispatch.specs.declared.reading.Held.TheVariants.{One, Two}
 use Rattle.grib_dyadic.specs.Value.{Exact}
 use Rattle.grib.specs.Message.{FieldOf, field_of}
 use Rattle.grib.specs.declared.field.Field.{Field}
-use Rattle.grib.specs.Values.{values_of}
+use Rattle.grib.specs.Points.{values_of}
 
 -- what a field shows of itself: its message and its number
 abbrev pub shown : Field → FieldOf
@@ -37,12 +37,12 @@ key_of (Two message) number key = key_value_of message number key
 abbrev pub key_in : FieldOf → Key → Option KeyValue
 key_in field key = key_of field.message field.number key
 
-abbrev pub number_of : Held → Key1 → Option ℕ
-number_of (One message) key = Some (key1_of message key)
+abbrev pub number_of : Held → Key1 → Option ℤ
+number_of (One message) key = Some (number1_of message key)
 number_of (Two message) key = None
 
 -- the number of a key of edition 1
-abbrev pub key1_in : FieldOf → Key1 → Option ℕ
+abbrev pub key1_in : FieldOf → Key1 → Option ℤ
 key1_in field key = number_of field.message key
 
 abbrev pub IsGrid : Held → ℕ → Option GridSection → Type 0

@@ -1,5 +1,5 @@
 -- The fields of a message that are still to come.
-use Rattle.std.specs.Prelude.{ℕ, ◌+◌, ◌-◌, List}
+use Rattle.std.specs.Prelude.{◌+◌, ◌-◌, List}
 use Rattle.grib.specs.Message.{FieldOf, fields_from}
 use Rattle.grib.specs.declared.fields.Fields.{Fields}
 

@@ -1,6 +1,11 @@
 pub mod Message
 pub mod Messages
+pub mod There
+pub mod Within
+pub mod Reading
 pub mod Fields
 pub mod Field
 pub mod Exact
-pub mod Values
+pub mod Points
+pub mod Changing
+pub mod Keys

@@ -1,16 +1,15 @@
 -- A message of either edition, its fields, and why octets begin with none.
-use Rattle.std.specs.Prelude.{◌≡◌, ℕ, true, false, Option, None, Some, List, map, length, take}
+use Rattle.std.specs.Prelude.{◌≡◌, ℕ, true, false, Option, None, Some, List, map}
 use Rattle.std.specs.List.{range_with_len}
-use Rattle.grib_base.specs.declared.fault.Fault.{Fault}
 use Rattle.grib_base.specs.declared.profile.Profile.TheVariants.{Stated}
 use Rattle.grib_stream.specs.Stream.{Faulty, begins}
 use Rattle.grib2_message.specs.Fields.{field_count}
 use Rattle.grib_command.specs.Judging.{judge}
-use Rattle.grib_dispatch.specs.Reading.{Holds, held_octets}
+use Rattle.grib_dispatch.specs.Reading.{Holds}
 use Rattle.grib_dispatch.specs.declared.reading.Held.{Held}
 use Rattle.grib_dispatch.specs.declared.reading.Held.TheVariants.{One, Two}
 use Rattle.grib.specs.declared.fault.ReadError.{ReadError}
-use Rattle.grib.specs.declared.fault.ReadError.TheVariants.{NoMessage, Refused, Memory}
+use Rattle.grib.specs.declared.fault.ReadError.TheVariants.{NoMessage, Refused, Memory, Source, TooLong}
 
 -- the octets begin with `GRIB`, and from there on with this message
 abbrev pub BeginsWith : List ℕ → Held → Type 0
@@ -21,6 +20,8 @@ abbrev pub IsReadError : List ℕ → ℕ → ReadError → Type 0
 IsReadError octets place NoMessage = begins octets ≡ false
 IsReadError octets place (Refused p fault) = (begins octets ≡ true) × (judge octets ≡ Faulty fault) × (p ≡ place)
 IsReadError octets place Memory = Unit {0}
+IsReadError octets place Source = ⊥
+IsReadError octets place TooLong = ⊥
 
 abbrev pub edition_of : Held → ℕ
 edition_of (One message) = 1

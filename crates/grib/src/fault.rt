@@ -9,7 +9,7 @@ use thiserror::Error;
 /// Why no message is read.
 #[derive(Clone, Copy, Debug, PartialEq, Eq, Error)]
 pub enum ReadError {
-    /// The octets do not begin with `GRIB`.
+    /// The octets do not begin with `GRIB`, or a reader stands at no message.
     #[error("no message begins here")]
     NoMessage,
     /// A message begins at this octet of the input, counted from 0, and is refused.
@@ -18,6 +18,12 @@ pub enum ReadError {
     /// There is no memory.
     #[error("out of memory")]
     Memory,
+    /// The source of a reader failed.
+    #[error("the input cannot be read")]
+    Source,
+    /// A reader took 18,446,744,073,709,551,615 octets, and the input goes on.
+    #[error("the input is too long")]
+    TooLong,
 }
 
 impl From<AllocError> for ReadError {

@@ -1,20 +1,24 @@
 //! A field of a message.
 
-ghost use Rattle.std.specs.Prelude.{◌≡◌, ◌≤◌, MatchOption, IfOk, None, Some, length, map};
+ghost use Rattle.std.specs.Prelude.{◌≡◌, ◌≤◌, MatchOption, MatchResult, IfOk, None, Some, length, map};
 ghost use Rattle.grib_base.specs.declared.limits.TheConstants.{MOST_POINTS};
 ghost use Rattle.grib1_sections.specs.Acceptance.{points_of};
 ghost use Rattle.grib1_sections.specs.Column.{column1_of};
+ghost use Rattle.grib1_sections.specs.Keys.{keys1};
+ghost use Rattle.grib_keys.specs.Keys.{keys};
 ghost use Rattle.grib2_grids.specs.Grid.{grid_points};
 ghost use Rattle.grib2_message.specs.Fields.{field_count, part_octets, column_of};
 ghost use Rattle.grib2_message.specs.Message.{IsMessage, FieldReads};
 ghost use Rattle.grib.specs.Message.{field_count_in};
 
+use crate::changing::repack_single;
 use crate::readable::readable;
-use crate::{Message, Values};
+use crate::{Keys, Keys1, Message, Points, RepackError};
 use grib_dispatch::Held;
 use grib_dyadic::Dyadic;
 use grib_keys::{Key, Value as KeyValue};
 use grib_packing::Column;
+use grib_repack::RepackTarget;
 use grib_select::{key_value, single};
 use grib1_sections::{Key1, Message1};
 use grib2_grids::GridSection;
@@ -34,9 +38,11 @@ pub struct Field<'m, 'a> {
 
 impl<'m, 'a> Field<'m, 'a> {
     ghost use Rattle.grib.specs.Message.{field_of};
-    ghost use Rattle.grib.specs.Values.{values_left};
+    ghost use Rattle.grib.specs.Points.{values_left};
     ghost use Rattle.grib.specs.Field as definitions;
+    ghost use Rattle.grib.specs.Changing.{IsRepacked, IsRepackError, alone};
     ghost use Rattle.grib.specs.Exact.{nearest_number};
+    ghost use Rattle.grib.specs.Keys.{keys_left, keys1_left, with_values};
     ghost use Rattle.grib.specs.Field.{shown, IsGridOf, IsProductOf};
 
     /// The field of a message with this number, from 1.
@@ -64,7 +70,7 @@ impl<'m, 'a> Field<'m, 'a> {
 
     /// The value of a key of edition 2: the number at its octets in the section that is in force for the field, or
     /// missing. `None` where the section has no such key by its template, and in edition 1.
-    pub fn key(&self, key: Key) -> Option<KeyValue>
+    pub fn get(&self, key: Key) -> Option<KeyValue>
         ensures { result ≡ definitions.key_in (shown self.now) key }
     {
         match self.message.held() {
@@ -73,14 +79,28 @@ impl<'m, 'a> Field<'m, 'a> {
         }
     }
 
-    /// The number of a key of edition 1, as its octets in Section 1 make it. `None` in edition 2.
-    pub fn key1(&self, key: Key1) -> Option<u64>
+    /// The number of a key of edition 1, as Section 1 says it; the decimal scale factor has a sign. `None` in edition 2.
+    pub fn get1(&self, key: Key1) -> Option<i64>
         ensures { result ≡ definitions.key1_in (shown self.now) key }
     {
         match self.message.held() {
-            Held::One(message) => Some(message.key1(key)),
+            Held::One(message) => Some(message.number1(key)),
             Held::Two(_) => None,
         }
+    }
+
+    /// The keys of edition 2 that the field has, each with its value, in the order of their places; none in edition 1.
+    pub fn keys(&self) -> Keys<'m, 'a>
+        ensures { keys_left result ≡ with_values (definitions.key_in (shown self.now)) keys }
+    {
+        Keys::of(*self)
+    }
+
+    /// The keys of edition 1, each with its number, in the order of Section 1; none in edition 2.
+    pub fn keys1(&self) -> Keys1<'m, 'a>
+        ensures { keys1_left result ≡ with_values (definitions.key1_in (shown self.now)) keys1 }
+    {
+        Keys1::of(*self)
     }
 
     /// The grid: what Section 3 of edition 2 says. `None` where the grid is opaque, and in edition 1.
@@ -133,7 +153,7 @@ impl<'m, 'a> Field<'m, 'a> {
     /// # Errors
     ///
     /// There is no memory for the points: 16 octets each.
-    pub fn values(&self, alloc: Global) -> Result<Values, AllocError>
+    pub fn points(&self, alloc: Global) -> Result<Points, AllocError>
         ensures values { IfOk result (λ left. values_left left ≡ definitions.values_in (shown self.now)) }
         ensures count { IfOk result (λ left. length (values_left left) ≡ definitions.point_count_in (shown self.now)) }
         ensures few { IfOk result (λ left. length (values_left left) ≤ MOST_POINTS) }
@@ -141,14 +161,14 @@ impl<'m, 'a> Field<'m, 'a> {
         match self.message.held() {
             Held::One(message) => {
                 let column = first_column(alloc, message)?;
-                Ok(Values::of(Dyadic::from_ibm(column.reference), column))
+                Ok(Points::of(Dyadic::from_ibm(column.reference), column))
             }
             Held::Two(message) => {
                 let column = second_column(alloc, message, self.number)?;
                 let Ok(reference) = Dyadic::from_ieee(column.reference) else {
                     unreachable!();
                 };
-                Ok(Values::of(reference, column))
+                Ok(Points::of(reference, column))
             }
         }
     }
@@ -159,11 +179,11 @@ impl<'m, 'a> Field<'m, 'a> {
     /// # Errors
     ///
     /// There is no memory: 32 octets for each point, of which half are given back.
-    pub fn values_f64(&self, alloc: Global) -> Result<Vec<Option<f64>>, AllocError>
+    pub fn values(&self, alloc: Global) -> Result<Vec<Option<f64>>, AllocError>
         ensures numbers { IfOk result (λ numbers. numbers.items ≡ map nearest_number (definitions.values_in (shown self.now))) }
         ensures count { IfOk result (λ numbers. length numbers.items ≡ definitions.point_count_in (shown self.now)) }
     {
-        self.values(alloc)?.to_f64s(alloc)
+        self.points(alloc)?.to_f64s(alloc)
     }
 
     /// The field as a message of its own: the sections that are in force for it, and no other field. A message of
@@ -178,6 +198,22 @@ impl<'m, 'a> Field<'m, 'a> {
         match self.message.held() {
             Held::One(message) => message.octets().to_vec(alloc),
             Held::Two(message) => single(alloc, message, self.number),
+        }
+    }
+
+    /// The field as a message of its own in another packing: each point with its value, or missing as before.
+    ///
+    /// # Errors
+    ///
+    /// The field is of edition 1; the target is none; a point does not fit the packing; the message would have more than
+    /// 268,435,456 octets; or there is no memory.
+    pub fn repack(&self, alloc: Global, target: RepackTarget) -> Result<Vec<u8>, RepackError>
+        ensures { MatchResult result (λ octets. IsRepacked target (alone (shown self.now)) octets.items)
+            (IsRepackError target (alone (shown self.now))) }
+    {
+        match self.message.held() {
+            Held::One(_) => Err(RepackError::EditionOne),
+            Held::Two(message) => repack_single(alloc, message, self.number, target),
         }
     }
 }

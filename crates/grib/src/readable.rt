@@ -12,8 +12,5 @@ pub(crate) fn readable<'m>(message: &'m Message<'_>) -> ReadableMessage<'m>
     ensures { result ≡ message.now }
 {
     field_holds();
-    let Ok(readable) = ReadableMessage::of(message) else {
-        unreachable!();
-    };
-    readable
+    ReadableMessage::known(message)
 }

@@ -97,7 +97,7 @@ pub enum Value {
 
 impl Value {
     ghost use Rattle.grib.specs.Exact.{nearest_number};
-    ghost use Rattle.grib.specs.Values.{number_of};
+    ghost use Rattle.grib.specs.Points.{number_of};
 
     /// The number of IEEE 754 binary64 that is nearest to the value, ties to even, rounded once; `None` where it is
     /// missing.

@@ -18,7 +18,7 @@ fn field_of<'m, 'a>(message: &'m Message<'a>, number: u32) -> Result<Field<'m, '
 /// The values of a field with four decimals, one a line.
 fn values_of(alloc: Global, field: &Field<'_, '_>) -> Result<String, Fail> {
     let mut text = String::new(alloc);
-    for value in field.values(alloc)? {
+    for value in field.points(alloc)? {
         match value {
             Value::Number(exact) => text.push_str(exact.decimal(alloc, 4)?.as_str())?,
             Value::Missing => text.push_str("missing")?,
@@ -33,15 +33,38 @@ fn keys_are_those_of_the_edition(rt: HostRuntime) -> Result<(), Fail> {
     let alloc = rt.alloc();
     let message = read(alloc, &PLAIN)?;
     let field = field_of(&message, 1)?;
-    assert_eq!(rt; field.key(Key::Centre), Some(KeyValue::Number(98)));
-    assert_eq!(rt; field.key(Key::Surface2), Some(KeyValue::Missing));
-    assert_eq!(rt; field.key(Key::EnsembleNumber), None);
-    assert_eq!(rt; field.key1(Key1::Centre), None);
+    assert_eq!(rt; field.get(Key::Centre), Some(KeyValue::Number(98)));
+    assert_eq!(rt; field.get(Key::Surface2), Some(KeyValue::Missing));
+    assert_eq!(rt; field.get(Key::EnsembleNumber), None);
+    assert_eq!(rt; field.get1(Key1::Centre), None);
     let message = read(alloc, FIRST_EDITION)?;
     let field = field_of(&message, 1)?;
-    assert_eq!(rt; field.key1(Key1::Parameter), Some(11));
-    assert_eq!(rt; field.key1(Key1::Level), Some(500));
-    assert_eq!(rt; field.key(Key::Centre), None);
+    assert_eq!(rt; field.get1(Key1::Parameter), Some(11));
+    assert_eq!(rt; field.get1(Key1::Level), Some(500));
+    assert_eq!(rt; field.get(Key::Centre), None);
+    Ok(())
+}
+
+#[test]
+fn a_field_lists_its_keys(rt: HostRuntime) -> Result<(), Fail> {
+    let alloc = rt.alloc();
+    let message = read(alloc, &PLAIN)?;
+    let field = field_of(&message, 1)?;
+    let mut keys = field.keys();
+    assert_eq!(rt; keys.next(), Some((Key::Discipline, KeyValue::Number(0))));
+    assert_eq!(rt; keys.next(), Some((Key::Centre, KeyValue::Number(98))));
+    // A product at an instant has no numbers of an ensemble, of an interval or of a time range.
+    assert_eq!(rt; field.keys().count(), 37);
+    assert!(rt; field.keys1().next().is_none());
+    let message = read(alloc, FIRST_EDITION)?;
+    let field = field_of(&message, 1)?;
+    assert_eq!(rt; field.keys1().count(), 22);
+    assert!(rt;
+        field
+            .keys1()
+            .any(|(key, number)| key == Key1::Parameter && number == 11)
+    );
+    assert!(rt; field.keys().next().is_none());
     Ok(())
 }
 
@@ -111,13 +134,13 @@ fn there_is_a_value_for_each_point(rt: HostRuntime) -> Result<(), Fail> {
     let message = read(alloc, &TWO_FIELDS)?;
     assert_eq!(rt; message.fields().len(), 2);
     let field = field_of(&message, 2)?;
-    assert_eq!(rt; field.values(alloc)?.count(), 4);
-    let mut values = field.values(alloc)?;
+    assert_eq!(rt; field.points(alloc)?.count(), 4);
+    let mut values = field.points(alloc)?;
     assert_eq!(rt; values.len(), 4);
     assert!(rt; values.next().is_some());
     assert_eq!(rt; values.len(), 3);
     let message = read(alloc, MASKED)?;
-    assert_eq!(rt; field_of(&message, 1)?.values(alloc)?.len(), 4);
+    assert_eq!(rt; field_of(&message, 1)?.points(alloc)?.len(), 4);
     Ok(())
 }
 
@@ -125,11 +148,11 @@ fn there_is_a_value_for_each_point(rt: HostRuntime) -> Result<(), Fail> {
 fn values_are_numbers_of_the_machine(rt: HostRuntime) -> Result<(), Fail> {
     let alloc = rt.alloc();
     let message = read(alloc, &TWO_FIELDS)?;
-    let numbers = field_of(&message, 1)?.values_f64(alloc)?;
+    let numbers = field_of(&message, 1)?.values(alloc)?;
     let expected = [Some(-11.8625), None, Some(-11.85), Some(-11.8375)];
     assert!(rt; numbers.as_slice() == expected.as_slice());
     let message = read(alloc, MASKED)?;
-    let numbers = field_of(&message, 1)?.values_f64(alloc)?;
+    let numbers = field_of(&message, 1)?.values(alloc)?;
     let expected = [Some(1100.0), None, Some(1300.0), Some(1500.0)];
     assert!(rt; numbers.as_slice() == expected.as_slice());
     // 42 * 10^308 and more
@@ -148,7 +171,7 @@ fn values_are_numbers_of_the_machine(rt: HostRuntime) -> Result<(), Fail> {
         ],
     )?;
     let message = read(alloc, octets.as_slice())?;
-    let numbers = field_of(&message, 1)?.values_f64(alloc)?;
+    let numbers = field_of(&message, 1)?.values(alloc)?;
     assert!(rt; numbers.as_slice() == [Some(f64::INFINITY); 4].as_slice());
     Ok(())
 }

@@ -8,3 +8,5 @@ mod changes;
 mod fields;
 #[cfg(test)]
 mod messages;
+#[cfg(test)]
+mod reading;

@@ -58,7 +58,7 @@ fn messages_of_both_editions_come_in_their_order(rt: HostRuntime) -> Result<(), 
 }
 
 #[test]
-fn nothing_comes_after_a_refusal(rt: HostRuntime) -> Result<(), Fail> {
+fn the_search_goes_on_behind_a_refusal(rt: HostRuntime) -> Result<(), Fail> {
     let alloc = rt.alloc();
     let mut octets = Vec::new(alloc);
     octets.extend_from_slice(&PLAIN)?;
@@ -71,6 +71,21 @@ fn nothing_comes_after_a_refusal(rt: HostRuntime) -> Result<(), Fail> {
     };
     let fault = Fault::at(155, Reason::ReferenceNotFinite, 2_139_095_040);
     assert_eq!(rt; error, ReadError::Refused { place: 183, fault });
+    assert!(rt; matches!(left.next(), Some(Ok(_))));
+    assert!(rt; left.next().is_none());
+    // Without `7777` at its stated end, a refusal is skipped behind its `GRIB`, and what it holds is found.
+    let mut octets = Vec::new(alloc);
+    octets.extend_from_slice(&PLAIN[..100])?;
+    octets.extend_from_slice(FIRST_EDITION)?;
+    let mut left = messages(alloc, &octets);
+    let Some(Err(error)) = left.next() else {
+        return Err(Fail::from("read"));
+    };
+    assert!(rt; matches!(error, ReadError::Refused { place: 0, .. }));
+    let Some(Ok(message)) = left.next() else {
+        return Err(Fail::from("refused"));
+    };
+    assert_eq!(rt; message.octets(), FIRST_EDITION);
     assert!(rt; left.next().is_none());
     Ok(())
 }
@@ -92,7 +107,7 @@ fn large_messages_come_whole(rt: HostRuntime) -> Result<(), Fail> {
         count = count.saturating_add(1);
         assert!(rt; message.octets() == made.as_slice());
         for field in message.fields() {
-            for _ in field.values(alloc)? {
+            for _ in field.points(alloc)? {
                 values = values.saturating_add(1);
             }
         }
