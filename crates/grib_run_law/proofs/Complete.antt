@@ -1,5 +1,5 @@
 -- The answer to an input whose messages are all in the grammar and all answered.
-use Rattle.std.proofs.Common.{◌≡◌, ℕ, suc, ◌+◌, ◌-◌, ◌^◌, ◌≤◌, ◌==◌, inl, inr, true, Some, None, List, [], ◌∷◌, ◌++◌, length, take, drop, All, refl, sym, ap, ◌∙◌, arith, length-append}
+use Rattle.std.proofs.Common.{◌≡◌, ℕ, suc, ◌+◌, ◌-◌, ◌^◌, ◌≤◌, ◌==◌, inl, inr, true, false, Some, None, List, [], ◌∷◌, ◌++◌, length, take, drop, All, refl, sym, ap, ◌∙◌, arith, length-append}
 use Rattle.std.proofs.Math.Seq.{take-append_seam, drop-append_seam}
 use Rattle.std.proofs.lemmas.List.{take-append-le, drop_all}
 use Rattle.std.proofs.lemmas.List.Elements.{All-head, All-tail}
@@ -35,8 +35,10 @@ made_done Keys stated is = let no : ⊥ = cc in absurd no
 made_done (Lines form columns None) stated is = let no : ⊥ = cc in absurd no
 made_done (Lines form columns (Some names)) stated is = let no : ⊥ = cc in absurd no
 made_done Stats stated is = let no : ⊥ = cc in absurd no
-made_done (Dump None placed) stated is = let no : ⊥ = cc in absurd no
-made_done (Dump (Some places) placed) stated is = let no : ⊥ = cc in absurd no
+made_done (Dump None true) stated is = let no : ⊥ = cc in absurd no
+made_done (Dump None false) stated is = let no : ⊥ = cc in absurd no
+made_done (Dump (Some places) true) stated is = let no : ⊥ = cc in absurd no
+made_done (Dump (Some places) false) stated is = let no : ⊥ = cc in absurd no
 made_done (Values format) stated is = let no : ⊥ = cc in absurd no
 made_done Coordinates stated is = let no : ⊥ = cc in absurd no
 made_done (Filter conditions) stated is = let no : ⊥ = cc in absurd no
