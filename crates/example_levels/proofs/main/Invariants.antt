@@ -2,5 +2,5 @@ use Rattle.grib.specs.Reading.{turns_left}
 use Rattle.example_levels.proofs.main.Given as goal
 
 -- each message is nearer to the end of the input
-abbrev pub decreases-loop-reader : goal.decreases-loop-reader
-decreases-loop-reader l = turns_left l.reader
+abbrev pub decreases-loop-levels : goal.decreases-loop-levels
+decreases-loop-levels l = turns_left l.reader
