@@ -217,7 +217,10 @@ fn a_dump_longer_than_the_buffer_is_whole(rt: HostRuntime) -> Result<(), Fail> {
     let mut shelf = MemoryShelf::new(rt.alloc(), Vec::new(rt.alloc()));
     let outcome = serve(
         rt.alloc(),
-        &Job::Dump { decimals: None, placed: false },
+        &Job::Dump {
+            decimals: None,
+            placed: false,
+        },
         &mut input,
         &mut output,
         &mut notes,
