@@ -54,11 +54,19 @@ fn a_field_lists_its_keys(rt: HostRuntime) -> Result<(), Fail> {
     assert_eq!(rt; keys.next(), Some((Key::Discipline, KeyValue::Number(0))));
     assert_eq!(rt; keys.next(), Some((Key::Centre, KeyValue::Number(98))));
     // A product at an instant has no numbers of an ensemble, of an interval or of a time range.
-    assert_eq!(rt; field.keys().count(), 37);
+    let mut count = 0u32;
+    for _key in field.keys() {
+        count = count.saturating_add(1);
+    }
+    assert_eq!(rt; count, 37);
     assert!(rt; field.keys1().next().is_none());
     let message = read(alloc, FIRST_EDITION)?;
     let field = field_of(&message, 1)?;
-    assert_eq!(rt; field.keys1().count(), 22);
+    let mut count = 0u32;
+    for _key in field.keys1() {
+        count = count.saturating_add(1);
+    }
+    assert_eq!(rt; count, 22);
     assert!(rt;
         field
             .keys1()
