@@ -13,7 +13,7 @@ use Rattle.grib_dispatch.specs.Hearing.{RefusesInTime}
 use Rattle.grib_run_spec.specs.Seen.{Seen}
 use Rattle.grib_run_spec.specs.Serving.{AnswersWork, IfUnread, Serves}
 use Rattle.grib_run_spec.specs.Tasks as tasks
-use Rattle.grib_run_spec.specs.Tasks.{IfHears, IfReads, Work, Reads, Makes, ReadsTables, writing}
+use Rattle.grib_run_spec.specs.Tasks.{IfHears, IfReads, Work, Reads, Makes, ReadsTables, ReadsFile, writing}
 use Rattle.grib_run_law.specs.Judged.{Judges}
 use Rattle.grib_run_law.specs.Leaving.{Leaves}
 use Rattle.grib_cli.specs.Answers.{Answers}
@@ -26,6 +26,7 @@ use Rattle.grib_words.specs.Reading.{has_equals, command_named, is_read, read_co
 use Rattle.grib_words.specs.Words.{IsAsked, job_of, job_of_reading, policy_of, profile_of}
 use Rattle.grib_cli.specs.Asked.{work_by, work_of}
 use Rattle.grib_engine.proofs.Unread.{left_alone}
+use Rattle.grib_engine.proofs.Unfiled.{file_alone}
 use Rattle.grib_words.proofs.Asked.{either, same_text, has_read, is_job, read_behind}
 
 -- ---- words behind `help`
@@ -146,6 +147,7 @@ hears_any : (work : Work) (P : Type 0) → P → IfReads work None (λ command. 
 hears_any (Reads command) P held = λ hears. held
 hears_any (Makes stated) P held = tt
 hears_any (ReadsTables asked commands) P held = tt
+hears_any (ReadsFile profile name commands) P held = tt
 
 pub soon_never : (profile : Profile) (asked : Result Job JobFault) (outcome : Outcome) (left left_now : Option (List ℕ)) → (outcome ≡ outcomes.Memory) ⊎ (outcome ≡ outcomes.WriteFault)
     → IfOk asked (λ job. IfHears job (RefusesInTime profile outcome left left_now))
@@ -160,3 +162,4 @@ pub unread_any : (work : Work) (names : Option Held) (P : Type 0) → P → IfUn
 unread_any (Reads command) names P held = tt
 unread_any (Makes stated) names P held = held
 unread_any (ReadsTables asked commands) names P held = left_alone asked commands names P held
+unread_any (ReadsFile profile name commands) names P held = file_alone profile name commands names P held

@@ -17,9 +17,9 @@ use grib_words::{JobFault, job_of, policy_of, profile_of};
 use std::alloc::Global;
 
 /// Does what the arguments ask for with the messages of `input`, or without it: writes the answer to `output`
-/// and notes how the run ended. The answer is a function of the arguments, the input and the tables that the arguments
-/// name and that stand on the shelf; it does not depend on how the input comes in pieces. `split` and what names a table
-/// alone use the shelf, and only `split` changes it. `help` with arguments after it is answered by what there is to tell of
+/// and notes how the run ended. The answer is a function of the arguments, the input and the tables or the file that the
+/// arguments name and that stand on the shelf; it does not depend on how the input comes in pieces. `split` and what names
+/// a table or a file alone use the shelf, and only `split` changes it. `help` with arguments after it is answered by what there is to tell of
 /// them, and asks for no job.
 pub fn run<S: Source, T: Sink, N: Sink, H: Shelf>(
     alloc: Global,
@@ -34,8 +34,8 @@ pub fn run<S: Source, T: Sink, N: Sink, H: Shelf>(
         H.contents H.faults in
         Answers (T.takes_memory || N.takes_memory) (map string_bytes words.now) result
         (see input.old output.old notes.old shelf.old) (see input.new output.new notes.new shelf.new) }
-    // A device that has no part in what is asked is as it was: the input where none is read, or the table is refused
-    // before, and the shelf where it is not used.
+    // A device that has no part in what is asked is as it was: the input where none is read, or the table or the file is
+    // refused before, and the shelf where it is not used.
     ensures unread { IfUnread (asked.work_of (map string_bytes words.now)) (H.contents shelf.old) (input.new ≡ input.old) }
     ensures unused { has_shelf (asked.work_of (map string_bytes words.now)) ≡ false → shelf.new ≡ shelf.old }
 {

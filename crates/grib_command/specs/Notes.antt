@@ -6,6 +6,8 @@ use Rattle.grib_base.specs.declared.fault.Fault.{Fault}
 use Rattle.grib_keys.specs.Keys.{name_of}
 use Rattle.grib1_sections.specs.Keys.{name1_of}
 use Rattle.grib_text.specs.Notes.{refusal_text}
+use Rattle.grib_stream.specs.declared.outcome.FileRefusal.{FileRefusal}
+use Rattle.grib_stream.specs.declared.outcome.FileRefusal.TheVariants as files
 use Rattle.grib_stream.specs.declared.place.Totals.{Totals}
 use Rattle.grib_reasons.specs.declared.cause.Cause.{Cause}
 use Rattle.grib_reasons.specs.declared.cause.Cause.TheVariants.{EditionOne, EditionTwo, SecondaryMissing, OutOfRange, DifferenceRange, OutputTooLong, KeyRange, KeyRange1, KeyAbsent, Lost, GridKind, ScanMode, OutsideBox, Increments, DecimalRange, Demoted, Packing, Date}
@@ -94,6 +96,14 @@ surfaces_note Absent = codes "surfaces absent\n"
 surfaces_note TooLarge = codes "surfaces too large\n"
 surfaces_note (Row number) = codes "surfaces row " ++ decimal number ++ 10 ∷ []
 surfaces_note (Duplicate number) = codes "surfaces duplicate " ++ decimal number ++ 10 ∷ []
+
+-- the file to compare with, which is absent, or of which a message is refused
+abbrev pub refused_file_text : ℕ → Fault → List ℕ
+refused_file_text message fault = refusal_text (codes "file refused message " ++ decimal message) fault
+
+abbrev pub file_note : FileRefusal → List ℕ
+file_note files.Absent = codes "file absent\n"
+file_note (files.Refused refusal) = refused_file_text refusal.message refusal.fault
 
 -- the messages and fields of an input that was read to its end, and the octets of their results
 abbrev pub written_note : Totals → List ℕ

@@ -27,6 +27,7 @@ help_lines =
     ∷ codes "grib crop i0=N i1=N j0=N j1=N                     a box of each grid\n"
     ∷ codes "grib crop north=D south=D west=D east=D           a box in degrees\n"
     ∷ codes "grib crop lat=D lon=D                             the nearest point\n"
+    ∷ codes "grib compare with=FILE [sections=all] [quiet=yes] fields beside those of a file\n"
     ∷ codes "grib make seed=N ni=N nj=N to=0|2|3 [order=1|2]   a message made from a number\n"
     ∷ codes "grib help                                         this page\n"
     ∷ codes "grib version                                      the version of this program\n"
@@ -35,7 +36,7 @@ help_lines =
     ∷ codes "filter to crop [refused=copy|pass]                the same, or copies it\n"
     ∷ codes "filter to crop [kept=copy|pass]                   goes on after what cannot be changed\n"
     ∷ codes "dump, values, coordinates [kept=pass]             the same\n"
-    ∷ codes "check to crop [profile=open]                      any grid, product and packing\n"
+    ∷ codes "check to compare [profile=open]                   any grid, product and packing\n"
     ∷ codes "Messages come from standard input and go to standard output. The pages: man grib\n"
     ∷ []
 

@@ -4,10 +4,10 @@ ghost use Rattle.std.specs.Prelude.{◌≡◌, IfOk};
 ghost use Rattle.grib_command.specs.Endings as endings;
 ghost use Rattle.grib_command.specs.Pending.{WritesTo};
 
-use crate::notes::{passed_note, written_note, written_passed_note};
+use crate::notes::{comparison_line, passed_note, written_note, written_passed_note};
 use crate::writing::write_whole;
 use grib_io::{Sink, Stop};
-use grib_stream::Totals;
+use grib_stream::{Outcome, Totals};
 use grib_text::total_line;
 use std::alloc::{AllocError, Global};
 
@@ -20,6 +20,9 @@ pub enum Ending {
     Total,
     /// It is noted what was counted and written.
     Written,
+    /// It is printed how many fields are the same, differ, or stand on one side alone: of the input, and of a file that
+    /// has `fields` fields. What is counted as written of a message is the number of its fields that differ.
+    Compared { fields: u64 },
 }
 
 impl Ending {
@@ -30,6 +33,10 @@ impl Ending {
     {
         match self {
             Ending::Silent | Ending::Written => Ok(()),
+            Ending::Compared { fields } => {
+                let line = comparison_line(alloc, totals, *fields)?;
+                write_whole(output, line.as_slice())
+            }
             Ending::Total => {
                 let line = total_line(alloc, totals.messages, totals.fields, totals.skipped)?;
                 write_whole(output, line.as_slice())
@@ -42,7 +49,7 @@ impl Ending {
         ensures { IfOk result (λ note. note.items ≡ endings.ending_note self.now totals.now) }
     {
         match self {
-            Ending::Silent | Ending::Total => Ok(Vec::new(alloc)),
+            Ending::Silent | Ending::Total | Ending::Compared { .. } => Ok(Vec::new(alloc)),
             Ending::Written => written_note(alloc, totals),
         }
     }
@@ -59,8 +66,26 @@ impl Ending {
         ensures { IfOk result (λ note. note.items ≡ endings.passed_ending_note self.now totals.now refused kept) }
     {
         match self {
-            Ending::Silent | Ending::Total => passed_note(alloc, refused, kept),
+            Ending::Silent | Ending::Total | Ending::Compared { .. } => {
+                passed_note(alloc, refused, kept)
+            }
             Ending::Written => written_passed_note(alloc, totals, refused, kept),
+        }
+    }
+
+    /// How a run ends that read its input to its end.
+    pub fn outcome(&self, totals: &Totals) -> Outcome
+        ensures { result ≡ endings.ending_outcome self.now totals.now }
+    {
+        match self {
+            Ending::Silent | Ending::Total | Ending::Written => Outcome::Done,
+            Ending::Compared { fields } => {
+                if totals.written == 0 && totals.fields == *fields {
+                    Outcome::Done
+                } else {
+                    Outcome::Differs
+                }
+            }
         }
     }
 }

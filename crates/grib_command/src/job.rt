@@ -55,6 +55,15 @@ pub enum Job {
     Values(Format),
     /// For each field two arrays, of the latitudes and of the longitudes of its points, in the form .npy of NumPy.
     Coordinates,
+    /// For each field a line that says whether it is the same as its counterpart in the file that stands on the shelf
+    /// under this name, and at the end a line on all fields of both.
+    Compare {
+        file: Name,
+        /// Whether Sections 1 to 4 have to be the same octets too.
+        sections: bool,
+        /// Whether fields that are the same have no line.
+        quiet: bool,
+    },
     /// Each message whose fields all fulfil the conditions, and of another one each field that does, as a
     /// message of its own.
     Filter(Conditions),

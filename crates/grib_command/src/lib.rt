@@ -16,8 +16,8 @@ pub use ending::Ending;
 pub use job::{Changes, Changes1, Conditions, Conditions1, Job};
 pub use name::Name;
 pub use notes::{
-    copied_line, kept_line, kept_note, made_note, passed_note, surfaces_note, table_note,
-    usage_note,
+    copied_line, file_note, kept_line, kept_note, made_note, passed_note, surfaces_note,
+    table_note, usage_note,
 };
 pub use page::Page;
 pub use writing::{write_counted, write_whole};

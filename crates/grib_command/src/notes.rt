@@ -2,13 +2,14 @@
 
 ghost use Rattle.std.specs.Prelude.{◌≡◌, string_bytes, IfOk};
 ghost use Rattle.grib_reasons.specs.declared.cause.Cause.TheVariants.{Demoted, Lost};
+ghost use Rattle.grib_command.specs.Endings as endings;
 ghost use Rattle.grib_command.specs.Notes as notes;
 ghost use Rattle.grib_command.specs.Outcomes.{note_of};
 ghost use Rattle.grib_stream.specs.declared.outcome.Outcome.TheVariants.{Usage};
 
-use grib_base::Fault;
+use grib_base::{Fault, Refusal};
 use grib_reasons::{Cause, Demotion, Kept, Loss, TableRefusal};
-use grib_stream::Totals;
+use grib_stream::{FileRefusal, Totals};
 use std::alloc::{AllocError, Global};
 
 /// The note on arguments that are not valid, by the first that is not read. The only error of notes
@@ -236,6 +237,77 @@ pub fn surfaces_note(alloc: Global, refusal: &TableRefusal) -> Result<Vec<u8>, A
 {
     let note = surfaces_text(alloc, refusal)?;
     Ok(note.into_bytes())
+}
+
+/// The note on a file that is refused.
+pub fn file_note(alloc: Global, refusal: &FileRefusal) -> Result<Vec<u8>, AllocError>
+    ensures { IfOk result (λ note. note.items ≡ notes.file_note refusal.now) }
+{
+    let note = file_text(alloc, refusal)?;
+    Ok(note.into_bytes())
+}
+
+/// Why a file is refused.
+fn file_text(alloc: Global, refusal: &FileRefusal) -> Result<String, AllocError>
+    ensures { IfOk result (λ text. string_bytes text ≡ notes.file_note refusal.now) }
+{
+    match *refusal {
+        FileRefusal::Absent => format!(in alloc; "file absent\n"),
+        FileRefusal::Refused(Refusal { message, fault }) => {
+            refused_file_text(alloc, message, &fault)
+        }
+    }
+}
+
+/// Why a message of a file is refused.
+fn refused_file_text(alloc: Global, message: u64, fault: &Fault) -> Result<String, AllocError>
+    ensures { IfOk result (λ text. string_bytes text ≡ notes.refused_file_text message fault.now) }
+{
+    let octet = fault.octet;
+    let reason = fault.reason;
+    let detail = fault.detail;
+    let text = format!(in alloc;
+        "file refused message {message} octet {octet} {reason} {detail}\n"
+    )?;
+    Ok(text)
+}
+
+/// The last line of a comparison with a file that has `in_file` fields.
+pub(crate) fn comparison_line(
+    alloc: Global,
+    totals: &Totals,
+    in_file: u64,
+) -> Result<Vec<u8>, AllocError>
+    ensures { IfOk result (λ line. line.items ≡ endings.comparison_line totals.now.fields totals.now.written in_file) }
+{
+    let both = totals.fields.min(in_file);
+    let same = both.saturating_sub(totals.written);
+    let (only_here, only_there) = (totals.fields - both, in_file - both);
+    counts_line(
+        alloc,
+        totals.fields,
+        same,
+        totals.written,
+        only_here,
+        only_there,
+    )
+}
+
+/// The line with these counts of fields.
+fn counts_line(
+    alloc: Global,
+    fields: u64,
+    same: u64,
+    differing: u64,
+    only_here: u64,
+    only_there: u64,
+) -> Result<Vec<u8>, AllocError>
+    ensures { IfOk result (λ line. line.items ≡ endings.counts_line fields same differing only_here only_there) }
+{
+    let line = format!(in alloc;
+        "fields {fields} same {same} differ {differing} only-input {only_here} only-file {only_there}\n"
+    )?;
+    Ok(line.into_bytes())
 }
 
 /// Why a table of surfaces is refused.

@@ -1,19 +1,33 @@
 -- With what a run ends: as its answer says, or by a device or a lack of memory, before its end or at it.
-use Rattle.std.proofs.Common.{◌≡◌, ◌≢◌, ◌⊎◌, inl, inr, ℕ, Bool, true, false, cond, [], Ok, Err, refl, sym, ap, ◌∙◌}
+use Rattle.std.proofs.Common.{◌≡◌, ◌≢◌, ◌⊎◌, ◌==◌, ◌&&◌, inl, inr, Bool, true, false, cond, [], Ok, Err, refl, sym, ap, ◌∙◌}
 use Rattle.std.proofs.lemmas.Bool.{false≢true}
 use Rattle.std.specs.declared.result.Result.{Result}
 use Rattle.grib_stream.specs.declared.outcome.Outcome.{Outcome}
-use Rattle.grib_stream.specs.declared.outcome.Outcome.TheVariants.{Done, Passed, ReadFault, WriteFault, ShelfFault, Memory}
+use Rattle.grib_stream.specs.declared.outcome.Outcome.TheVariants.{Done, Passed, Differs, ReadFault, WriteFault, ShelfFault, Memory}
 use Rattle.grib_stream.specs.Outcomes.{is_broken, is_cut_short}
 use Rattle.grib_items.specs.declared.policy.ItemTotals.{ItemTotals}
 use Rattle.grib_items.specs.Laws.{outcome_of, is_whole}
+use Rattle.grib_stream.specs.declared.place.Totals.{Totals}
+use Rattle.grib_command.specs.declared.ending.Ending.{Ending}
+use Rattle.grib_command.specs.declared.ending.Ending.TheVariants.{Silent, Total, Written, Compared}
+use Rattle.grib_command.specs.Endings.{ending_outcome}
 use Rattle.grib_command.specs.Outcomes.{note_of, note_with}
 use Rattle.grib_command.proofs.Noted.{OneOf}
 use Rattle.grib_run_spec.specs.Stated.{is_plain, outcome_by}
 
-over_whole : (b : Bool) (refused kept : ℕ) → is_whole (cond b Done (Passed refused kept)) ≡ true
-over_whole true refused kept = refl
-over_whole false refused kept = refl
+one_whole_of : (b : Bool) → is_whole (cond b Done Differs) ≡ true
+one_whole_of true = refl
+one_whole_of false = refl
+
+end_whole : (ending : Ending) (totals : Totals) → is_whole (ending_outcome ending totals) ≡ true
+end_whole Silent totals = refl
+end_whole Total totals = refl
+end_whole Written totals = refl
+end_whole (Compared in_file) totals = one_whole_of ((totals.written == 0) && (totals.fields == in_file))
+
+over_whole : (ending : Ending) (b : Bool) (totals : ItemTotals) → is_whole (cond b (ending_outcome ending totals.counted) (Passed totals.refused totals.kept)) ≡ true
+over_whole ending true totals = end_whole ending totals.counted
+over_whole ending false totals = refl
 
 pub whole_unbroken : (outcome : Outcome) → is_whole outcome ≡ true → is_broken outcome ≡ false
 whole_unbroken ReadFault is = sym is
@@ -25,6 +39,7 @@ whole_unbroken other is = refl
 pub broken_early : (outcome : Outcome) → is_broken outcome ≡ true → is_whole outcome ≡ false
 broken_early Done is = sym is
 broken_early (Passed refused kept) is = sym is
+broken_early Differs is = sym is
 broken_early other is = refl
 
 pub uncut_of : (outcome : Outcome) → is_broken outcome ≡ false → is_cut_short outcome ≡ false
@@ -35,23 +50,23 @@ uncut_of other unbroken = refl
 -- ---- what the items of an input answered
 
 -- one that does not come at the end of the input is that of the run
-pub own_of : (result : Result ItemTotals Outcome) (outcome : Outcome) → is_whole outcome ≡ false → outcome_by result ≡ outcome → outcome_of result ≡ outcome
-own_of (Ok totals) outcome early is =
-    absurd (false≢true (sym early ∙ (sym (ap is_whole is) ∙ over_whole (is_plain totals) totals.refused totals.kept)))
-own_of (Err own) outcome early is = is
+pub own_of : (ending : Ending) (result : Result ItemTotals Outcome) (outcome : Outcome) → is_whole outcome ≡ false → outcome_by ending result ≡ outcome → outcome_of result ≡ outcome
+own_of ending (Ok totals) outcome early is =
+    absurd (false≢true (sym early ∙ (sym (ap is_whole is) ∙ over_whole ending (is_plain totals) totals)))
+own_of ending (Err own) outcome early is = is
 
-pub by_own : (result : Result ItemTotals Outcome) (outcome : Outcome) → is_whole outcome ≡ false → outcome_of result ≡ outcome → outcome_by result ≡ outcome
-by_own (Ok totals) outcome early is = absurd (false≢true (sym early ∙ sym (ap is_whole is)))
-by_own (Err own) outcome early is = is
+pub by_own : (ending : Ending) (result : Result ItemTotals Outcome) (outcome : Outcome) → is_whole outcome ≡ false → outcome_of result ≡ outcome → outcome_by ending result ≡ outcome
+by_own ending (Ok totals) outcome early is = absurd (false≢true (sym early ∙ sym (ap is_whole is)))
+by_own ending (Err own) outcome early is = is
 
-pub own_unbroken : (result : Result ItemTotals Outcome) → is_broken (outcome_by result) ≡ false → is_broken (outcome_of result) ≡ false
-own_unbroken (Ok totals) unbroken = refl
-own_unbroken (Err outcome) unbroken = unbroken
+pub own_unbroken : (ending : Ending) (result : Result ItemTotals Outcome) → is_broken (outcome_by ending result) ≡ false → is_broken (outcome_of result) ≡ false
+own_unbroken ending (Ok totals) unbroken = refl
+own_unbroken ending (Err outcome) unbroken = unbroken
 
-pub broken_is : (result : Result ItemTotals Outcome) → is_broken (outcome_by result) ≡ true → result ≡ Err (outcome_by result)
-broken_is (Ok totals) broken =
-    absurd (false≢true (sym (whole_unbroken (outcome_by (Ok totals)) (over_whole (is_plain totals) totals.refused totals.kept)) ∙ broken))
-broken_is (Err outcome) broken = refl
+pub broken_is : (ending : Ending) (result : Result ItemTotals Outcome) → is_broken (outcome_by ending result) ≡ true → result ≡ Err (outcome_by ending result)
+broken_is ending (Ok totals) broken =
+    absurd (false≢true (sym (whole_unbroken (outcome_by ending (Ok totals)) (over_whole ending (is_plain totals) totals)) ∙ broken))
+broken_is ending (Err outcome) broken = refl
 
 -- ---- the end of a run
 

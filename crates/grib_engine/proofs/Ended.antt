@@ -8,6 +8,8 @@ use Rattle.std.specs.List.{concat}
 use Rattle.std.proofs.KnownBytes.{Appends-trans}
 use Rattle.grib_io.specs.Outside.{AppendsFront, Unfinished}
 use Rattle.grib_io.specs.Shelves.{Held, Stays}
+use Rattle.grib_file.specs.Filed as files
+use Rattle.grib_file.specs.Filed.{FieldOf, Filed, filed}
 use Rattle.grib_table.specs.declared.together.Tables.{Tables}
 use Rattle.grib_table.specs.Together.{Together, AllGood, TableRefused, SurfacesRefused, together}
 use Rattle.grib_stream.specs.declared.outcome.Outcome.{Outcome}
@@ -28,9 +30,9 @@ use Rattle.grib_command.specs.Counts.{NoneCounted}
 use Rattle.grib_command.specs.Outcomes.{note_of, note_with}
 use Rattle.grib_command.proofs.Noted.{OneOf, keeps_or_cuts, no_shelf_fault, ends_noted, memory_stands}
 use Rattle.grib_run_spec.specs.Seen.{Seen, world_of, outside_of, faults_of, Settles}
-use Rattle.grib_run_spec.specs.Stated.{IfTabled, IfAsked, IfStated, deeds_of, plan_by, stated_to}
+use Rattle.grib_run_spec.specs.Stated.{IfFiled, IfTabled, IfAsked, IfStated, deeds_of, plan_by, stated_to}
 use Rattle.grib_run_spec.specs.Serving.{NotedBehind, NotedFrontBehind, NotesSome, IsCounted, Gives, Reading, AtOnce, Serves}
-use Rattle.grib_run_spec.specs.Tasks.{Stated, Work, Reads, Makes, ReadsTables, has_shelf, has_table}
+use Rattle.grib_run_spec.specs.Tasks.{Stated, Work, Reads, Makes, ReadsTables, ReadsFile, has_shelf, has_table}
 use Rattle.grib_engine.specs.Beside.{beside}
 use Rattle.grib_engine.proofs.Broken.{whole_unbroken, uncut_of, one_uncut, one_whole, one_early, write_or_not, read_or_not, shelf_or_not}
 
@@ -282,11 +284,17 @@ if_tabled commands P Q A B map at_once (AllGood tables) held = map (commands tab
 if_tabled commands P Q A B map at_once (TableRefused refusal) held = at_once _ held
 if_tabled commands P Q A B map at_once (SurfacesRefused refusal) held = at_once _ held
 
+if_filed : (commands : List FieldOf → Command) (P Q : Command → Type 0) (A B : Stated → Type 0) → ((command : Command) → P command → Q command) → ((stated : Stated) → A stated → B stated) → (f : Filed)
+    → IfFiled commands P A f → IfFiled commands Q B f
+if_filed commands P Q A B map at_once (files.Good fields) held = map (commands fields) held
+if_filed commands P Q A B map at_once (files.Refused refusal) held = at_once _ held
+
 if_asked : (work : Work) (names : Option Held) (P Q : Command → Type 0) (A B : Stated → Type 0) → ((command : Command) → P command → Q command) → ((stated : Stated) → A stated → B stated)
     → IfAsked work names P A → IfAsked work names Q B
 if_asked (Reads command) names P Q A B map at_once held = map command held
 if_asked (Makes stated) names P Q A B map at_once held = at_once stated held
 if_asked (ReadsTables asked commands) names P Q A B map at_once (texts, stood, held) = (texts, stood, if_tabled commands P Q A B map at_once (together asked texts) held)
+if_asked (ReadsFile profile name commands) names P Q A B map at_once (text, stood, held) = (text, stood, if_filed commands P Q A B map at_once (filed profile text) held)
 
 module _ (takes_memory : Bool) (policy : Policy) (own : Outcome) (note : List ℕ) (outcome : Outcome) (before mid now : Seen) (ended : Ended takes_memory own note outcome mid now) where
   -- what holds of each answer, by what was done of it

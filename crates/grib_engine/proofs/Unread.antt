@@ -1,8 +1,12 @@
--- A run by tables that were read before any input, or that were not read.
+-- A run by tables that were read before any input, or that were not read, and a run of which nothing is done.
 use Rattle.std.proofs.Common.{◌≡◌, ◌≢◌, ℕ, Bool, true, false, IfSome, Option, Some, None, Ok, Err, List, [], ◌∷◌, refl, sym, ap, ◌∙◌, subst, arith}
 use Rattle.std.proofs.lemmas.Bool.{false≢true}
 use Rattle.std.proofs.KnownBytes.{Appends-nil}
+use Rattle.grib_io.specs.Outside.{Counted}
 use Rattle.grib_io.specs.Shelves.{Held, Stays}
+use Rattle.grib_file.specs.Filed as files
+use Rattle.grib_file.specs.Filed.{FieldOf, Filed, filed}
+use Rattle.grib_table.specs.Tabled.{Stood}
 use Rattle.grib_table.specs.declared.together.Tables.{Tables}
 use Rattle.grib_table.specs.declared.stop.TablesStop.{TablesStop}
 use Rattle.grib_table.specs.declared.stop.TablesStop.TheVariants as stops
@@ -26,9 +30,9 @@ use Rattle.grib_command.specs.declared.job.Job.TheVariants.{Dump, Lines}
 use Rattle.grib_command.specs.Command.{Command}
 use Rattle.grib_command.specs.Outcomes.{note_of}
 use Rattle.grib_run_spec.specs.Seen.{Seen, world_of, outside_of, faults_of}
-use Rattle.grib_run_spec.specs.Stated.{IfTabled, IfAsked, deeds_of, plan_by, stated_to}
+use Rattle.grib_run_spec.specs.Stated.{IfFiled, IfTabled, IfAsked, deeds_of, plan_by, stated_to}
 use Rattle.grib_run_spec.specs.Serving.{NotedBehind, NotesSome, IsCounted, Gives, Reading, AtOnce, Serves, IfUnread}
-use Rattle.grib_run_spec.specs.Tasks.{Stated, Work, Reads, Makes, ReadsTables, IfHears, work_under, ends_at_once}
+use Rattle.grib_run_spec.specs.Tasks.{Stated, Work, Reads, Makes, ReadsTables, ReadsFile, IfHears, work_under, ends_at_once}
 use Rattle.grib_engine.specs.Untabled.{outcome_untabled}
 use Rattle.grib_engine.proofs.Broken.{broken_early}
 use Rattle.grib_engine.proofs.Ended.{Reached, Answers, States, Ran, if_told}
@@ -48,7 +52,11 @@ stands names asked =
     let first = stands_where names asked.parameters in
     let second = stands_where names asked.surfaces in
     let third = stands_where names asked.names in
-    (record { parameters = first.0; surfaces = second.0; names = third.0 }, (first.1, (second.1, third.1)))
+    (record { parameters = first.0; surfaces = second.0; names = third.0; file = None }, (first.1, (second.1, third.1)))
+
+pub stands_under : (names : Option Held) (name : List ℕ) → (text : Option (List ℕ)) × Stood names name text
+stands_under None name = (None, tt)
+stands_under (Some held) name = (held name, refl)
 
 -- a shelf that keeps what it holds
 did_stays : (output : Option (List ℕ)) (names names_now : Option Held) → Stays names names_now → Did (world output names) (world output names_now) []
@@ -105,15 +113,22 @@ module _ (policy : Policy) (before : Seen) (names : Option Held) (faults : ℕ) 
   broken_tabled own is other commands (TableRefused refusal) = (broken own is (ends_at_once (outcomes.TableRefused refusal)), other)
   broken_tabled own is other commands (SurfacesRefused refusal) = (broken own is (ends_at_once (outcomes.SurfacesRefused refusal)), other)
 
-  broken_asked : (own : Outcome) → is_broken own ≡ true → own ≢ ReadFault → (work : Work)
+  broken_filed : (own : Outcome) → is_broken own ≡ true → own ≢ ReadFault → (commands : List FieldOf → Command) (f : Filed)
+      → IfFiled commands (Answers policy own (note_of own) before same) (States own (note_of own) before same) f
+  broken_filed own is other commands (files.Good fields) = broken_reading own is other (commands fields)
+  broken_filed own is other commands (files.Refused refusal) = (broken own is (ends_at_once (outcomes.FileRefused refusal)), other)
+
+  pub broken_asked : (own : Outcome) → is_broken own ≡ true → own ≢ ReadFault → (work : Work)
       → IfAsked work before.names (Answers policy own (note_of own) before same) (States own (note_of own) before same)
   broken_asked own is other (Reads command) = broken_reading own is other command
   broken_asked own is other (Makes stated) = (broken own is stated, other)
   broken_asked own is other (ReadsTables asked commands) =
       let stand = stands before.names asked in (stand.0, stand.1, broken_tabled own is other commands (together asked stand.0))
+  broken_asked own is other (ReadsFile profile name commands) =
+      let stand = stands_under before.names name in (stand.0, stand.1, broken_filed own is other commands (filed profile stand.0))
 
   -- what is stated at once
-  at_once : (own : Outcome) → is_broken own ≡ false → Reached (ends_at_once own) own (note_of own) before same
+  pub at_once : (own : Outcome) → is_broken own ≡ false → Reached (ends_at_once own) own (note_of own) before same
   at_once own unbroken = record {
     ends = λ is. (refl, refl);
     broke = λ is. refl;
@@ -121,7 +136,7 @@ module _ (policy : Policy) (before : Seen) (names : Option Held) (faults : ℕ) 
     front = front_whole (outside_of before) (outside_of same) no_deeds did_nothing;
   }
 
-  calm : (own : Outcome) → own ≢ ReadFault → own ≢ WriteFault → own ≢ ShelfFault → faults ≡ before.shelf_faults → CountsOne own (faults_of before) (faults_of same)
+  pub calm : (own : Outcome) → own ≢ ReadFault → own ≢ WriteFault → own ≢ ShelfFault → faults ≡ before.shelf_faults → CountsOne own (faults_of before) (faults_of same)
   calm own no_read no_write no_shelf is = record {
     read = λ e. absurd (no_read e);
     read_calm = λ other. refl;
@@ -132,13 +147,9 @@ module _ (policy : Policy) (before : Seen) (names : Option Held) (faults : ℕ) 
     shelf_calm = λ other. is;
   }
 
-  -- ---- the tables were not read, or are none
-
-  stopped : (stop : TablesStop) → CountsTablesStop stop before.shelf_faults faults → CountsOne (outcome_untabled stop) (faults_of before) (faults_of same)
-  stopped (stops.Refused refusal) counts = calm (outcomes.TableRefused refusal) (λ e. cc) (λ e. cc) (λ e. cc) counts
-  stopped (stops.SurfacesRefused refusal) counts = calm (outcomes.SurfacesRefused refusal) (λ e. cc) (λ e. cc) (λ e. cc) counts
-  stopped stops.Memory counts = calm Memory (λ e. cc) (λ e. cc) (λ e. cc) counts
-  stopped stops.ShelfFault counts = record {
+  -- the shelf failed
+  pub failed : Counted before.shelf_faults faults → CountsOne ShelfFault (faults_of before) (faults_of same)
+  failed counts = record {
     read = λ e. cc;
     read_calm = λ other. refl;
     write = λ e. cc;
@@ -147,6 +158,14 @@ module _ (policy : Policy) (before : Seen) (names : Option Held) (faults : ℕ) 
     shelf = λ e. counts;
     shelf_calm = λ other. absurd (other refl);
   }
+
+  -- ---- the tables were not read, or are none
+
+  stopped : (stop : TablesStop) → CountsTablesStop stop before.shelf_faults faults → CountsOne (outcome_untabled stop) (faults_of before) (faults_of same)
+  stopped (stops.Refused refusal) counts = calm (outcomes.TableRefused refusal) (λ e. cc) (λ e. cc) (λ e. cc) counts
+  stopped (stops.SurfacesRefused refusal) counts = calm (outcomes.SurfacesRefused refusal) (λ e. cc) (λ e. cc) (λ e. cc) counts
+  stopped stops.Memory counts = calm Memory (λ e. cc) (λ e. cc) (λ e. cc) counts
+  stopped stops.ShelfFault counts = failed counts
 
   refused_asked : (asked : Asked) (commands : Tables → Command) (own : Outcome) (what : Together)
       → IfTabled commands (Answers policy own (note_of own) before same) (States own (note_of own) before same) what → reads.StandsAs before.names asked what
@@ -207,16 +226,16 @@ ended_at_once own policy before unbroken =
       table_stays = λ no. absurd (false≢true no);
     }
 
--- ---- by tables that were read
+-- ---- by what was read before the input
 
-module _ (takes_memory : Bool) (asked : Asked) (commands : Tables → Command) (policy : Policy) (outcome : Outcome) (before now : Seen) (names : Option Held) (stays : Stays before.names names) where
+module _ (policy : Policy) (outcome : Outcome) (before now : Seen) (names : Option Held) (stays : Stays before.names names) where
   abbrev mid : Seen
   mid = shelved before names before.shelf_faults
 
   did : Done (outside_of before) (outside_of mid) no_deeds
   did = did_nothing policy before names before.shelf_faults stays
 
-  gives_after : (stated : Stated) → Gives stated outcome mid now → Gives stated outcome before now
+  pub gives_after : (stated : Stated) → Gives stated outcome mid now → Gives stated outcome before now
   gives_after stated gives = record {
     ends = gives.ends;
     whole = λ unbroken. done_then (outside_of before) (outside_of mid) (outside_of now) no_deeds (deeds_of stated) did (gives.whole unbroken);
@@ -225,7 +244,7 @@ module _ (takes_memory : Bool) (asked : Asked) (commands : Tables → Command) (
     noted = gives.noted;
   }
 
-  reading_after : (command : Command) → Reading policy outcome mid now command → Reading policy outcome before now command
+  pub reading_after : (command : Command) → Reading policy outcome mid now command → Reading policy outcome before now command
   reading_after command reading =
       let taken = reading.taken.2 in
       record {
@@ -245,6 +264,9 @@ module _ (takes_memory : Bool) (asked : Asked) (commands : Tables → Command) (
         end = reading.end;
       }
 
+-- ---- by tables that were read
+
+module _ (takes_memory : Bool) (asked : Asked) (commands : Tables → Command) (policy : Policy) (outcome : Outcome) (before now : Seen) (names : Option Held) (stays : Stays before.names names) where
   pub by_tables : (read : Tables) (faults : ℕ) → reads.ReadsTables (Ok read) before.names asked → faults ≡ before.shelf_faults → now.names ≡ names
       → Serves takes_memory (Reads (commands read)) policy outcome (shelved before names faults) now → Serves takes_memory (ReadsTables asked commands) policy outcome before now
   by_tables read faults (texts, stood, is) same kept ran_so =
@@ -255,7 +277,7 @@ module _ (takes_memory : Bool) (asked : Asked) (commands : Tables → Command) (
         answer = (
           texts,
           stood,
-          subst (IfTabled commands (Reading policy outcome before now) (AtOnce outcome before now)) (sym is) (reading_after (commands read) ran.answer),
+          subst (IfTabled commands (Reading policy outcome before now) (AtOnce outcome before now)) (sym is) (reading_after policy outcome before now names stays (commands read) ran.answer),
         );
         told = (texts, stood, tells (λ stated. NotesSome (IsCounted (faults_of before) (faults_of now)) stated before.notes now.notes) ran.told);
         settled = record { settles = ran.settled.settles; unfinished = ran.settled.unfinished; output_unfinished = ran.settled.output_unfinished };

@@ -29,7 +29,7 @@ use std::alloc::Global;
 
 /// Does what the job says of a message at this place; `make` says nothing of messages. After a fault or
 /// without memory some front of its result was done. `split` leaves the output as it was, and every other
-/// job the shelf. Nothing is said of a job that reads tables where none are given.
+/// job the shelf. Nothing is said of a job that reads tables where none are given, nor of one that reads a file.
 pub fn answer_message<T: Sink, H: Shelf>(
     alloc: Global,
     job: &Job,
@@ -99,6 +99,7 @@ pub fn answer_message<T: Sink, H: Shelf>(
         Job::Coordinates => {
             answer_held(&ByOutput(Coordinating), alloc, place, held, output, shelf)
         }
+        Job::Compare { .. } => Answered::Whole(0),
         Job::Filter(conditions) => {
             let conditions = conditions.as_slice();
             answer_held(

@@ -8,7 +8,9 @@ ghost use Rattle.grib_command.specs.Outcomes.{note_with};
 ghost use Rattle.grib_command.specs.Pending.{Writes};
 ghost use Rattle.grib_stream.specs.declared.outcome.Outcome.TheVariants.{WriteFault};
 
-use grib_command::{kept_note, passed_note, surfaces_note, table_note, usage_note, write_whole};
+use grib_command::{
+    file_note, kept_note, passed_note, surfaces_note, table_note, usage_note, write_whole,
+};
 use grib_io::{Sink, Stop};
 use grib_stream::Outcome;
 use grib_text::refusal_note;
@@ -84,11 +86,16 @@ pub fn close_with_note<T: Sink, N: Sink>(
             Ok(note) => close(outcome, note.as_slice(), output, notes),
             Err(_) => close(Outcome::Memory, b"memory\n", output, notes),
         },
+        Outcome::FileRefused(refusal) => match file_note(alloc, &refusal) {
+            Ok(note) => close(outcome, note.as_slice(), output, notes),
+            Err(_) => close(Outcome::Memory, b"memory\n", output, notes),
+        },
         Outcome::Passed { refused, kept } => match passed_note(alloc, refused, kept) {
             Ok(note) => close(outcome, note.as_slice(), output, notes),
             Err(_) => close(Outcome::Memory, b"memory\n", output, notes),
         },
         Outcome::Done => close(outcome, done, output, notes),
+        Outcome::Differs => close(outcome, b"", output, notes),
         Outcome::WriteFault => close(outcome, b"", output, notes),
         Outcome::ReadFault => close(outcome, b"read fault\n", output, notes),
         Outcome::ShelfFault => close(outcome, b"shelf fault\n", output, notes),

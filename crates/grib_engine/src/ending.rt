@@ -24,23 +24,28 @@ pub(crate) fn close_at_end<T: Sink, N: Sink>(
     notes: &mut N,
 ) -> Outcome
     ensures ends { EndsNoted T.contents T.faults T.settled N.contents N.faults N.settled
-        (outcome_by (Ok totals.now)) (note_by ending (Ok totals.now)) result output.old output.new notes.old notes.new }
+        (outcome_by ending (Ok totals.now)) (note_by ending (Ok totals.now)) result output.old output.new notes.old notes.new }
     ensures memory_noted { T.takes_memory ≡ false → N.takes_memory ≡ false → result ≡ Memory
         → StandsWhole T.settled N.contents N.settled (note_of Memory) output.new notes.old notes.new }
     ensures output_kept { Keeps (T.contents output.old) (T.contents output.new) }
 {
     match note_at_end(ending, alloc, totals) {
-        Ok(note) => close(outcome_at_end(totals), note.as_slice(), output, notes),
+        Ok(note) => close(
+            outcome_at_end(ending, totals),
+            note.as_slice(),
+            output,
+            notes,
+        ),
         Err(_) => close(Outcome::Memory, b"memory\n", output, notes),
     }
 }
 
 /// How a run ends at the end of its input.
-fn outcome_at_end(totals: &ItemTotals) -> Outcome
-    ensures { result ≡ outcome_by (Ok totals.now) }
+fn outcome_at_end(ending: Ending, totals: &ItemTotals) -> Outcome
+    ensures { result ≡ outcome_by ending (Ok totals.now) }
 {
     if is_plain(totals) {
-        return Outcome::Done;
+        return ending.outcome(&totals.counted);
     }
     Outcome::Passed {
         refused: totals.refused,

@@ -3,6 +3,7 @@
 
 mod answering;
 mod closing;
+mod comparing;
 mod ending;
 mod making;
 mod reading;

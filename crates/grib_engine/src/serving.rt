@@ -13,6 +13,7 @@ ghost use Rattle.grib_run_spec.specs.Serving.{Serves, IfUnread};
 ghost use Rattle.grib_run_spec.specs.Tasks.{Work, Makes, IfHears, ends_at_once, has_shelf, uses_shelf, work_of, work_under};
 
 use crate::closing::close_with_note;
+use crate::comparing::serve_compared;
 use crate::making::{serve_made, write_noted};
 use crate::reading::{
     serve_demoted, serve_dumped, serve_filtered_named, serve_lines, serve_messages, serve_migrated,
@@ -32,10 +33,10 @@ use grib_values::{Arraying, Coordinating};
 use std::alloc::Global;
 
 /// Writes the answer to the job to `output`, and notes how the run ended. The answer is a function of the job, the
-/// input and, for `migrate`, `demote` and what asks for names, the tables that stand on the shelf; it does not depend on
+/// input and, for `migrate`, `demote` and what asks for names, the tables that stand on the shelf, and for `compare` the file; it does not depend on
 /// how the input comes in pieces. The run ends at the first octets that are refused, and at the first message that
 /// cannot be changed. `make` and the pages read no input. `split` puts fields on the shelf, tables are read there before
-/// any input, and no other job uses the shelf. What is refused by `check` or `list` is refused in time.
+/// any input, and so is the file of `compare`; no other job uses the shelf. What is refused by `check` or `list` is refused in time.
 pub fn serve<S: Source, T: Sink, N: Sink, H: Shelf>(
     alloc: Global,
     job: &Job,
@@ -141,6 +142,13 @@ pub fn serve_under<S: Source, T: Sink, N: Sink, H: Shelf>(
                 shelf,
             )
         }
+        Job::Compare {
+            file,
+            sections,
+            quiet,
+        } => serve_compared(
+            alloc, file, *sections, *quiet, profile, policy, input, output, notes, shelf,
+        ),
         Job::Filter(conditions) => {
             let conditions = conditions.as_slice();
             let filtering = ByOutput(Changing(Filtering { conditions }));

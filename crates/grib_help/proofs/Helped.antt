@@ -22,6 +22,7 @@ has_line the.Migrate = refl
 has_line the.Demote = refl
 has_line the.Rescan = refl
 has_line the.Crop = refl
+has_line the.Compare = refl
 has_line the.Make = refl
 has_line the.Help = refl
 has_line the.Version = refl

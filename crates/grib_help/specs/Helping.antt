@@ -8,7 +8,7 @@ use Rattle.grib_topics.specs.Nearest.{nearest_command, nearest_key}
 use Rattle.grib_topics.specs.Shown.{shown}
 use Rattle.grib_words.specs.declared.command.Command.{Command}
 use Rattle.grib_words.specs.declared.command.Command.TheVariants as the
-use Rattle.grib_words.specs.declared.command.Command.TheVariants.{Check, Keys, Stats, Dump, Values, Coordinates, Filter, Split, Set, Repack, Migrate, Demote, Rescan, Crop, Make, Help, Version}
+use Rattle.grib_words.specs.declared.command.Command.TheVariants.{Check, Keys, Stats, Dump, Values, Coordinates, Filter, Split, Set, Repack, Migrate, Demote, Rescan, Crop, Compare, Make, Help, Version}
 use Rattle.grib_words.specs.Reading.{Entry, is, has_equals, name_in, value_in, is_key1, is_any_key, is_on_first, is_mixed, has_first, has_a_side, has_an_edge, name_of, reads_input, own_entries, policy_entries, entries, takes, has_name, has_word, command_named, reading}
 
 abbrev pub is_empty : List ℕ → Bool
@@ -105,9 +105,13 @@ set_rule name =
     (cond (is_key1 name) (codes "a whole number without zeros before it, as 98 or 0")
     (codes "a whole number without zeros before it, as 98, 0 or -5, or missing"))
 
+abbrev pub compare_rule : List ℕ → List ℕ
+compare_rule name = cond (is (codes "with") name) (codes "the name of a file") (cond (is (codes "sections") name) (codes "all") (codes "yes"))
+
 abbrev pub command_rule : Command → List ℕ → List ℕ
 command_rule Filter name = filter_rule name
 command_rule Set name = set_rule name
+command_rule Compare name = compare_rule name
 command_rule Repack name = repack_rule name
 command_rule Migrate name = migrate_rule name
 command_rule command name = own_rule name
@@ -277,6 +281,7 @@ abbrev pub wanted : Command → List (List ℕ) → List ℕ
 wanted Crop words = crop_wanted words
 wanted Make words = named_or words (codes "seed" ∷ codes "ni" ∷ codes "nj" ∷ codes "to" ∷ []) (order_wanted words)
 wanted Repack words = named_or words (codes "to" ∷ []) (beside_to words)
+wanted Compare words = named_or words (codes "with" ∷ []) []
 wanted Split words = named_or words (codes "out" ∷ []) []
 wanted Migrate words = named_or words (codes "params" ∷ []) []
 wanted Demote words = named_or words (codes "params" ∷ []) []
@@ -353,6 +358,12 @@ set_deed words =
     cond (has_first words) (codes "writes each message of edition 1 with these values of keys, and all else as it is")
     (codes "writes each message with these values of keys, and all else as it is")
 
+abbrev pub compare_deed : List (List ℕ) → List ℕ
+compare_deed words =
+    cond (has_name (codes "quiet") words)
+    (codes "writes a line for each field that is not the same as its counterpart in this file, and a line on all fields")
+    (codes "writes a line for each field that says whether it is the same as its counterpart in this file, and a line on all fields")
+
 abbrev pub dates_part : List (List ℕ) → List ℕ
 dates_part words = cond (has_word (codes "dates=valid") words) (codes ", where its reference time is then a date and time") []
 
@@ -372,6 +383,7 @@ deed_of Migrate words = codes "writes each message of edition 1 as one of editio
 deed_of Demote words = codes "writes each field of edition 2 as a message of edition 1, by this table"
 deed_of Rescan words = codes "writes each message with its points from west to east and from north to south"
 deed_of Crop words = crop_deed words
+deed_of Compare words = compare_deed words
 deed_of Make words = codes "writes a synthetic message, made from the seed"
 deed_of Help words = codes "writes a line on each command"
 deed_of Version words = codes "writes the version of the program"

@@ -29,9 +29,21 @@ pub(crate) fn deed_of(command: Command, words: &[String]) -> &'static str
         Command::Rescan =>
             "writes each message with its points from west to east and from north to south",
         Command::Crop => crop_deed(words),
+        Command::Compare => compare_deed(words),
         Command::Make => "writes a synthetic message, made from the seed",
         Command::Help => "writes a line on each command",
         Command::Version => "writes the version of the program",
+    }
+}
+
+/// What `compare` with these arguments would do.
+fn compare_deed(words: &[String]) -> &'static str
+    ensures { result.now ≡ helping.compare_deed (map string_bytes words.now) }
+{
+    if has_name(words, "quiet") {
+        "writes a line for each field that is not the same as its counterpart in this file, and a line on all fields"
+    } else {
+        "writes a line for each field that says whether it is the same as its counterpart in this file, and a line on all fields"
     }
 }
 

@@ -281,6 +281,7 @@ fn knows_own(command: Command, name: &str) -> bool
         Command::Migrate => matches!(name, "params" | "surfaces" | "local"),
         Command::Demote => matches!(name, "params" | "local" | "earth" | "tables"),
         Command::Crop => knows_part(name),
+        Command::Compare => matches!(name, "with" | "sections" | "quiet"),
         Command::Make => matches!(name, "seed" | "ni" | "nj" | "to" | "order"),
         Command::Check
         | Command::Stats
@@ -321,9 +322,21 @@ fn command_rule(command: Command, name: &str) -> &'static str
     match command {
         Command::Filter => filter_rule(name),
         Command::Set => set_rule(name),
+        Command::Compare => compare_rule(name),
         Command::Repack => repack_rule(name),
         Command::Migrate => migrate_rule(name),
         _ => own_rule(name),
+    }
+}
+
+/// What the value of a name of `compare` is.
+fn compare_rule(name: &str) -> &'static str
+    ensures { result.now ≡ helping.compare_rule name.now }
+{
+    match name {
+        "with" => "the name of a file",
+        "sections" => "all",
+        _ => "yes",
     }
 }
 

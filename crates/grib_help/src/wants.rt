@@ -25,6 +25,7 @@ pub(crate) fn wanted(
         ),
         Command::Repack => named_or(alloc, words, &["to"], beside_to(words)),
         Command::Split => named_or(alloc, words, &["out"], ""),
+        Command::Compare => named_or(alloc, words, &["with"], ""),
         Command::Migrate | Command::Demote => named_or(alloc, words, &["params"], ""),
         Command::Filter => String::from_str(alloc, condition_wanted(words)),
         _ => String::from_str(

@@ -124,11 +124,13 @@ no_refusal task texts policy limit input none some =
 unkept : (outcome : Outcome) → kept_of outcome ≡ None → is_kept outcome ≡ false
 unkept outcomes.Done is = refl
 unkept (outcomes.Passed refused kept) is = refl
+unkept outcomes.Differs is = refl
 unkept (outcomes.Usage word) is = refl
 unkept (outcomes.Refused refusal) is = refl
 unkept (outcomes.Kept kept) is = let no : ⊥ = cc in absurd no
 unkept (outcomes.TableRefused refusal) is = refl
 unkept (outcomes.SurfacesRefused refusal) is = refl
+unkept (outcomes.FileRefused refusal) is = refl
 unkept outcomes.ReadFault is = refl
 unkept outcomes.WriteFault is = refl
 unkept outcomes.ShelfFault is = refl

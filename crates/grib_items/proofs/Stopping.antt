@@ -3,7 +3,7 @@ use Rattle.std.proofs.Common.{◌≡◌, ◌≢◌, ℕ, Bool, true, false, cond
 use Rattle.grib_base.specs.declared.fault.Fault.{Fault}
 use Rattle.grib_reasons.specs.declared.cause.Kept.{Kept as KeptMessage}
 use Rattle.grib_stream.specs.declared.outcome.Outcome.{Outcome}
-use Rattle.grib_stream.specs.declared.outcome.Outcome.TheVariants.{Done as Finished, Passed, Usage, Refused, Kept, TableRefused, SurfacesRefused, ReadFault, WriteFault, ShelfFault, Memory, InputTooLong}
+use Rattle.grib_stream.specs.declared.outcome.Outcome.TheVariants.{Done as Finished, Passed, Differs, Usage, Refused, Kept, TableRefused, SurfacesRefused, FileRefused, ReadFault, WriteFault, ShelfFault, Memory, InputTooLong}
 use Rattle.grib_stream.specs.declared.place.Place.{Place}
 use Rattle.grib_stream.specs.Stream.{Judgement, Message, Faulty}
 use Rattle.grib_stream.specs.Outcomes.{is_broken, is_truncated, is_of_message}
@@ -27,11 +27,13 @@ pub record AtItem (outcome : Outcome) : Type 0 where
 message_before_end : (outcome : Outcome) → is_of_message outcome ≡ true → is_whole outcome ≡ false
 message_before_end Finished is = sym is
 message_before_end (Passed refused kept) is = sym is
+message_before_end Differs is = sym is
 message_before_end (Usage word) is = refl
 message_before_end (Refused refusal) is = refl
 message_before_end (Kept kept) is = refl
 message_before_end (TableRefused refusal) is = refl
 message_before_end (SurfacesRefused refusal) is = refl
+message_before_end (FileRefused refusal) is = refl
 message_before_end ReadFault is = refl
 message_before_end WriteFault is = refl
 message_before_end ShelfFault is = refl
@@ -42,11 +44,13 @@ message_before_end InputTooLong is = refl
 pub broken_before_end : (outcome : Outcome) → is_broken outcome ≡ true → is_whole outcome ≡ false
 broken_before_end Finished is = sym is
 broken_before_end (Passed refused kept) is = sym is
+broken_before_end Differs is = sym is
 broken_before_end (Usage word) is = refl
 broken_before_end (Refused refusal) is = refl
 broken_before_end (Kept kept) is = refl
 broken_before_end (TableRefused refusal) is = refl
 broken_before_end (SurfacesRefused refusal) is = refl
+broken_before_end (FileRefused refusal) is = refl
 broken_before_end ReadFault is = refl
 broken_before_end WriteFault is = refl
 broken_before_end ShelfFault is = refl

@@ -2,7 +2,7 @@
 use Rattle.std.specs.Prelude.{◌≡◌, ℕ, ◌+◌, ◌≤◌, ◌==◌, cond, ◌++◌, Bool, true, false, List, [], ◌∷◌, length, take, drop, Some, None, Ok, Err}
 use Rattle.std.specs.declared.result.Result.{Result}
 use Rattle.grib_stream.specs.declared.outcome.Outcome.{Outcome}
-use Rattle.grib_stream.specs.declared.outcome.Outcome.TheVariants.{Done, Passed, Usage, Refused as Refusal, Kept, TableRefused, SurfacesRefused, ReadFault, WriteFault, ShelfFault, Memory, InputTooLong}
+use Rattle.grib_stream.specs.declared.outcome.Outcome.TheVariants.{Done, Passed, Differs, Usage, Refused as Refusal, Kept, TableRefused, SurfacesRefused, FileRefused, ReadFault, WriteFault, ShelfFault, Memory, InputTooLong}
 use Rattle.grib_stream.specs.declared.place.Place.{Place}
 use Rattle.grib_base.specs.Rows.{refusal}
 use Rattle.grib_base.specs.declared.fault.Reason.TheVariants.{Edition}
@@ -31,11 +31,13 @@ outcome_of (Err outcome) = outcome
 abbrev pub is_whole : Outcome → Bool
 is_whole Done = true
 is_whole (Passed refused kept) = true
+is_whole Differs = true
 is_whole (Usage word) = false
 is_whole (Refusal refusal) = false
 is_whole (Kept kept) = false
 is_whole (TableRefused refusal) = false
 is_whole (SurfacesRefused refusal) = false
+is_whole (FileRefused refusal) = false
 is_whole ReadFault = false
 is_whole WriteFault = false
 is_whole ShelfFault = false

@@ -15,7 +15,7 @@ use Rattle.grib_stream.specs.Task.{Task, Given, Gives}
 use Rattle.grib_stream.proofs.Exits.{within_short}
 use Rattle.grib_stream.proofs.Streams.{stream_passed, stream_message, is_begun}
 use Rattle.grib_command.specs.declared.job.Job.{Job}
-use Rattle.grib_command.specs.declared.job.Job.TheVariants.{Check, List as Listing, Keys, Lines, Stats, Dump, Values, Coordinates, Filter, FilterNamed, Filter1, Split, Set, Set1, Repack, RepackLeast, Rescan, Crop, Within, Migrate, Demote, Make, Print}
+use Rattle.grib_command.specs.declared.job.Job.TheVariants.{Check, List as Listing, Keys, Lines, Stats, Dump, Values, Coordinates, Compare, Filter, FilterNamed, Filter1, Split, Set, Set1, Repack, RepackLeast, Rescan, Crop, Within, Migrate, Demote, Make, Print}
 use Rattle.grib_command.specs.Command.{Command, given, task, under}
 use Rattle.grib_run_law.specs.Complete.{Piece, IsInGrammar, IsMadeOf, HaveResults}
 use Rattle.grib_run_law.specs.Written.{HasResult}
@@ -24,7 +24,7 @@ use Rattle.grib_dispatch.specs.Lawful.{least_message, message_stays}
 use Rattle.grib_command.specs.Pages.{text_of}
 use Rattle.grib_run_spec.specs.Tasks as tasks
 use Rattle.grib_table.specs.Together.{Texts}
-use Rattle.grib_run_spec.specs.Tasks.{Stated, Work, Reads, Makes, ReadsTables, by_profile, work_of_job, work_under, made_answer, writing, answer_by, answer_under}
+use Rattle.grib_run_spec.specs.Tasks.{Stated, Work, Reads, Makes, ReadsTables, ReadsFile, by_profile, work_of_job, work_under, made_answer, writing, answer_by, answer_beside, answer_under}
 
 -- ---- jobs that make something
 
@@ -41,6 +41,7 @@ made_done (Dump (Some places) true) stated is = let no : ⊥ = cc in absurd no
 made_done (Dump (Some places) false) stated is = let no : ⊥ = cc in absurd no
 made_done (Values format) stated is = let no : ⊥ = cc in absurd no
 made_done Coordinates stated is = let no : ⊥ = cc in absurd no
+made_done (Compare name sections quiet) stated is = let no : ⊥ = cc in absurd no
 made_done (Filter conditions) stated is = let no : ⊥ = cc in absurd no
 made_done (FilterNamed conditions names wanted) stated is = let no : ⊥ = cc in absurd no
 made_done (Filter1 conditions) stated is = let no : ⊥ = cc in absurd no
@@ -141,6 +142,8 @@ module _ (profile : Profile) where
   work_done (Makes stated) texts pieces input makes short made has = makes stated refl
   work_done (ReadsTables asked commands) texts pieces input makes short made (tables, good, has) =
       ap (λ t. (answer_by t (λ tables. under profile (commands tables)) input).outcome) good ∙ command_done (commands tables) pieces input short made has
+  work_done (ReadsFile other name commands) texts pieces input makes short made (fields, good, has) =
+      ap (λ f. (answer_beside f (λ fields. under profile (commands fields)) input).outcome) good ∙ command_done (commands fields) pieces input short made has
 
   pub job_done : (job : Job) (texts : Texts) (pieces : List Piece) (input : List ℕ) → length input ≤ 2 ^ 40 → IsMadeOf profile pieces input
       → HaveResults (work_under profile job) texts pieces → (answer_under profile job texts input).outcome ≡ Done

@@ -16,7 +16,7 @@ use Rattle.grib_stream.proofs.Parts.{AsParts, parts_done}
 use Rattle.grib_run_law.proofs.Alone.{Fixed, changing_fixed, values_fixed, choosing_fixed, filter1_fixed, set1_fixed, migrate_fixed, demote_fixed, stands_alone}
 use Rattle.grib_run_law.proofs.Each.{written_join}
 use Rattle.grib_command.specs.declared.job.Job.{Job}
-use Rattle.grib_command.specs.declared.job.Job.TheVariants.{Check, List as Listing, Keys, Lines, Stats, Dump, Values, Coordinates, Filter, FilterNamed, Filter1, Split, Set, Set1, Repack, RepackLeast, Rescan, Crop, Within, Migrate, Demote, Make, Print}
+use Rattle.grib_command.specs.declared.job.Job.TheVariants.{Check, List as Listing, Keys, Lines, Stats, Dump, Values, Coordinates, Compare, Filter, FilterNamed, Filter1, Split, Set, Set1, Repack, RepackLeast, Rescan, Crop, Within, Migrate, Demote, Make, Print}
 use Rattle.grib_command.specs.Command.{Command, IsLawfulCommand, changing_unless, reading_values, task, under}
 use Rattle.grib_command.specs.LawfulCommands.{under_lawful}
 use Rattle.grib_run_law.specs.Each.{writes_each}
@@ -117,6 +117,7 @@ job_parts profile Stats texts front rest is each fits ends done = absurd (false�
 job_parts profile (Dump decimals placed) texts front rest is each fits ends done = absurd (false≢true each)
 job_parts profile (Values format) texts front rest is each fits ends done = absurd (false≢true each)
 job_parts profile Coordinates texts front rest is each fits ends done = absurd (false≢true each)
+job_parts profile (Compare name sections quiet) texts front rest is each fits ends done = absurd (false≢true each)
 job_parts profile (Split name edition_1) texts front rest is each fits ends done = absurd (false≢true each)
 job_parts profile (Make seed ni nj target) texts front rest is each fits ends done = absurd (false≢true each)
 job_parts profile (Print page) texts front rest is each fits ends done = absurd (false≢true each)

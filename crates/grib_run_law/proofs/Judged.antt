@@ -14,6 +14,8 @@ use Rattle.grib_packing.specs.Packing.{packing_template}
 use Rattle.grib2_message.specs.Fields.{part_octets}
 use Rattle.grib2_message.specs.Message.{first_opaque}
 use Rattle.grib_table.specs.declared.together.Tables.{Tables}
+use Rattle.grib_file.specs.Filed as files
+use Rattle.grib_file.specs.Filed.{FieldOf, Filed}
 use Rattle.grib_table.specs.Together.{Together, AllGood, TableRefused, SurfacesRefused}
 use Rattle.grib_least.specs.Least.{least}
 use Rattle.grib_reorder.specs.declared.edit.GridEdit.TheVariants as edits
@@ -21,18 +23,23 @@ use Rattle.grib_stream.specs.declared.outcome.Outcome.{Outcome}
 use Rattle.grib_stream.specs.declared.outcome.Outcome.TheVariants as outcomes
 use Rattle.grib_stream.specs.declared.place.Place.{Place}
 use Rattle.grib_stream.specs.Acts.{Act}
+use Rattle.grib_stream.specs.declared.place.Totals.{Totals}
 use Rattle.grib_stream.specs.Answer.{refusal_after}
 use Rattle.grib_stream.specs.Outcomes.{is_broken, is_truncated}
 use Rattle.grib_stream.specs.Stream.{begins, Judgement, Message, Faulty, message_after}
 use Rattle.grib_stream.specs.Task.{Given, Gives, Ends}
 use Rattle.grib_items.specs.declared.policy.Instead.{Instead}
 use Rattle.grib_items.specs.declared.policy.Policy.{Policy}
-use Rattle.grib_items.specs.Answer.{Counts, Answered, passes, no_counts, refused_instead, instead_of, kept_of, one_answered, one_kept, one_refused, place_by, on_outcome, on_given, on_end, on_comes, after, answers}
+use Rattle.grib_items.specs.declared.policy.ItemTotals.{ItemTotals}
+use Rattle.grib_items.specs.Answer.{Counts, Answered, totals_by, passes, no_counts, refused_instead, instead_of, kept_of, one_answered, one_kept, one_refused, place_by, on_outcome, on_given, on_end, on_comes, after, answers}
 use Rattle.grib_items.specs.Items.{Item, Accepted, Refused, End, Over, Refusing, Open, Items, passed_after, end_by, on_next, items_from}
 use Rattle.grib_items.specs.Next.{Unknown, Refuses, next_judged, next_passed, passed}
 use Rattle.grib_items.specs.Laws.{AreInOrder, item_before, item_size, is_refusal}
 use Rattle.grib_command.specs.declared.job.Job.{Job}
-use Rattle.grib_command.specs.declared.job.Job.TheVariants.{Check, List as Listing, Keys, Lines, Stats, Dump, Values, Coordinates, Filter, FilterNamed, Filter1, Split, Set, Set1, Repack, RepackLeast, Rescan, Crop, Within, Migrate, Demote, Make, Print}
+use Rattle.grib_command.specs.declared.job.Job.TheVariants.{Check, List as Listing, Keys, Lines, Stats, Dump, Values, Coordinates, Compare, Filter, FilterNamed, Filter1, Split, Set, Set1, Repack, RepackLeast, Rescan, Crop, Within, Migrate, Demote, Make, Print}
+use Rattle.grib_command.specs.declared.ending.Ending.{Ending}
+use Rattle.grib_command.specs.declared.ending.Ending.TheVariants.{Silent, Total, Written, Compared}
+use Rattle.grib_command.specs.Endings.{ending_outcome}
 use Rattle.grib_command.specs.Command.{Command, given, given_readable, given_unless, kept_at, of_values, task, under}
 use Rattle.grib_command.specs.Judging.{judge_under, fields_of}
 use Rattle.grib_command.specs.Texts.{texts}
@@ -47,6 +54,8 @@ use Rattle.grib_placed.specs.Dumping.{dump_placed_command}
 use Rattle.grib_placed.specs.Valuing.{value_placed_command}
 use Rattle.grib_values.specs.Arrays.{values_command}
 use Rattle.grib_values.specs.Coordinates.{coordinates_command}
+use Rattle.grib_compare.specs.Command as compares
+use Rattle.grib_compare.specs.Command.{compare_command}
 use Rattle.grib_edit.specs.Filtering.{filter_command}
 use Rattle.grib_edit.specs.FilteringNamed.{filter_named_command}
 use Rattle.grib_edit.specs.Filtering1.{filter1_command}
@@ -60,8 +69,8 @@ use Rattle.grib_edit.specs.Migrating.{are_octets, migrate_command}
 use Rattle.grib_edit.specs.Demoting.{demote_command}
 use Rattle.grib_run_spec.specs.Seen.{Seen}
 use Rattle.grib_run_spec.specs.Serving.{Gives as RunGives, Reading, AtOnce, AnswersWork}
-use Rattle.grib_run_spec.specs.Stated.{IfTabled, outcome_by, stated_to}
-use Rattle.grib_run_spec.specs.Tasks.{Stated, Work, Reads, Makes, ReadsTables, by_profile, work_of_job, work_under}
+use Rattle.grib_run_spec.specs.Stated.{IfFiled, IfTabled, outcome_by, stated_to}
+use Rattle.grib_run_spec.specs.Tasks.{Stated, Work, Reads, Makes, ReadsTables, ReadsFile, by_profile, work_of_job, work_under}
 use Rattle.grib_run_law.specs.Answered.{is_longer, items_of, items_answered}
 use Rattle.grib_run_law.specs.Judged.{IsRefused, messages_of, NamesRow, Judges}
 use Rattle.grib_run_law.proofs.Accepting.{ItemsStand, is_refused, judged_all}
@@ -98,6 +107,10 @@ values_never : (second : Place → List ℕ → Given) → ((place : Place) (mes
     → (place : Place) (message : List ℕ) → NoneRefuses (of_values second place message)
 values_never second never place message = readable_never (first_opaque message) message place (λ _. second place message) (never place message)
 
+compared_never : (cause : Option Cause) (m : ℕ) (text : List ℕ) (count : ℕ) → NoneRefuses (compares.given_unless cause m text count)
+compared_never None m text count = gives_never _ _
+compared_never (Some cause) m text count = kept_never m cause
+
 either_never : (b : Bool) (g h : Given) → NoneRefuses g → NoneRefuses h → NoneRefuses (choose b (λ _. g) (λ _. h))
 either_never true g h first second = first
 either_never false g h first second = second
@@ -111,12 +124,14 @@ abbrev NeverWork : Work → Type 0
 NeverWork (Reads command) = NeverRefuses command
 NeverWork (Makes stated) = is_refusal stated.outcome ≡ false
 NeverWork (ReadsTables asked commands) = (tables : Tables) → NeverRefuses (commands tables)
+NeverWork (ReadsFile profile name commands) = (fields : List FieldOf) → NeverRefuses (commands fields)
 
 -- the profile does not matter
 profile_never : (profile : Profile) (work : Work) → NeverWork work → NeverWork (by_profile profile work)
 profile_never profile (Reads command) never = never
 profile_never profile (Makes stated) never = never
 profile_never profile (ReadsTables asked commands) never = never
+profile_never profile (ReadsFile other name commands) never = never
 
 job_never : (job : Job) → NeverWork (work_of_job job)
 job_never Check = by_edition check_command (λ place message. gives_never _ _) (λ place message. gives_never _ _)
@@ -131,6 +146,7 @@ job_never (Dump (Some places) false) = by_edition (value_command places) (λ pla
 job_never (Dump (Some places) true) = by_edition (value_placed_command places) (λ place message. kept_never _ _) (values_never _ (λ place message. text_never _ _ _))
 job_never Coordinates = by_edition coordinates_command (λ place message. kept_never _ _) (λ place message. text_never _ _ _)
 job_never (Values format) = by_edition (values_command format) (λ place message. gives_never _ _) (values_never _ (λ place message. gives_never _ _))
+job_never (Compare name sections quiet) = λ fields. by_edition (compare_command sections quiet fields) (λ place message. compared_never _ _ _ _) (λ place message. compared_never _ _ _ _)
 job_never (Filter conditions) = by_edition (filter_command conditions) (λ place message. kept_never _ _) (λ place message. gives_never _ _)
 job_never (FilterNamed conditions names wanted) = λ tables. by_edition (filter_named_command conditions wanted tables.names) (λ place message. kept_never _ _) (λ place message. gives_never _ _)
 job_never (Filter1 conditions) = by_edition (filter1_command conditions) (λ place message. gives_never _ _) (λ place message. gives_never _ _)
@@ -156,13 +172,24 @@ record IsEnd (before : ℕ) (items : List Item) (end : End) (refusal : Refusal) 
   ends : end ≡ Refusing refusal.fault
   number : refusal.message ≡ before + length (messages_of items) + 1
 
-by_counts : (plain : Bool) (refused kept : ℕ) (refusal : Refusal) → cond plain outcomes.Done (outcomes.Passed refused kept) ≡ outcomes.Refused refusal → ⊥
-by_counts true refused kept refusal is = cc
-by_counts false refused kept refusal is = cc
+by_differing : (b : Bool) (refusal : Refusal) → cond b outcomes.Done outcomes.Differs ≡ outcomes.Refused refusal → ⊥
+by_differing true refusal is = cc
+by_differing false refusal is = cc
+
+by_ending : (ending : Ending) (totals : Totals) (refusal : Refusal) → ending_outcome ending totals ≡ outcomes.Refused refusal → ⊥
+by_ending Silent totals refusal is = cc
+by_ending Total totals refusal is = cc
+by_ending Written totals refusal is = cc
+by_ending (Compared in_file) totals refusal is = by_differing ((totals.written == 0) && (totals.fields == in_file)) refusal is
+
+by_counts : (ending : Ending) (plain : Bool) (totals : ItemTotals) (refusal : Refusal)
+    → cond plain (ending_outcome ending totals.counted) (outcomes.Passed totals.refused totals.kept) ≡ outcomes.Refused refusal → ⊥
+by_counts ending true totals refusal is = by_ending ending totals.counted refusal is
+by_counts ending false totals refusal is = cc
 
 module _ (command : Command) (never : NeverRefuses command) (policy : Policy) where
-  end_refused : (counts : Counts) (end : End) (refusal : Refusal) → outcome_by (on_end (task command) counts end).result ≡ outcomes.Refused refusal → IsEnd counts.messages [] end refusal
-  end_refused counts (Over skipped) refusal is = absurd (by_counts _ counts.refused counts.kept refusal is)
+  end_refused : (counts : Counts) (end : End) (refusal : Refusal) → outcome_by command.ending (on_end (task command) counts end).result ≡ outcomes.Refused refusal → IsEnd counts.messages [] end refusal
+  end_refused counts (Over skipped) refusal is = absurd (by_counts command.ending _ (totals_by counts skipped) refusal is)
   end_refused counts (Refusing fault) refusal is =
       let same : refusal_after counts.messages fault ≡ refusal = cc in
       record { ends = ap (λ (r : Refusal). Refusing r.fault) same; number = let number : counts.messages + 1 ≡ refusal.message = ap (λ (r : Refusal). r.message) same in omega arith }
@@ -170,11 +197,11 @@ module _ (command : Command) (never : NeverRefuses command) (policy : Policy) wh
 
   -- the run goes on behind a message, which is counted
   abbrev GoesOn : Counts → (Counts → Answered) → Refusal → Type 0
-  GoesOn counts next refusal = (later : Counts) × (later.messages ≡ counts.messages + 1) × (outcome_by (next later).result ≡ outcomes.Refused refusal)
+  GoesOn counts next refusal = (later : Counts) × (later.messages ≡ counts.messages + 1) × (outcome_by command.ending (next later).result ≡ outcomes.Refused refusal)
 
   outcome_refused : (instead : Option Instead) (kept : Option Kept) (counts : Counts) (place : Place) (fields : ℕ) (message : List ℕ) (outcome : Outcome) (next : Counts → Answered) (refusal : Refusal)
       → is_refusal outcome ≡ false
-      → outcome_by (on_comes (on_outcome texts counts place fields message outcome instead kept) (λ done counts. after done (next counts))).result ≡ outcomes.Refused refusal
+      → outcome_by command.ending (on_comes (on_outcome texts counts place fields message outcome instead kept) (λ done counts. after done (next counts))).result ≡ outcomes.Refused refusal
       → GoesOn counts next refusal
   outcome_refused None kept counts place fields message outcome next refusal none is = absurd (false≢true (sym none ∙ ap is_refusal is))
   outcome_refused (Some instead) None counts place fields message outcome next refusal none is = absurd (false≢true (sym none ∙ ap is_refusal is))
@@ -182,13 +209,13 @@ module _ (command : Command) (never : NeverRefuses command) (policy : Policy) wh
       (one_kept counts fields (length (instead_of instead message)), refl, is)
 
   given_refused : (g : Given) (counts : Counts) (place : Place) (fields : ℕ) (message : List ℕ) (next : Counts → Answered) (refusal : Refusal) → NoneRefuses g
-      → outcome_by (on_comes (on_given texts policy.kept counts place fields message g) (λ done counts. after done (next counts))).result ≡ outcomes.Refused refusal
+      → outcome_by command.ending (on_comes (on_given texts policy.kept counts place fields message g) (λ done counts. after done (next counts))).result ≡ outcomes.Refused refusal
       → GoesOn counts next refusal
   given_refused (Gives acts written) counts place fields message next refusal none is = (one_answered counts fields written, refl, is)
   given_refused (Ends outcome) counts place fields message next refusal none is =
       outcome_refused policy.kept (kept_of outcome) counts place fields message outcome next refusal (none outcome refl) is
 
-  answers_refused : (counts : Counts) (items : List Item) (end : End) (refusal : Refusal) → outcome_by (answers (task command) texts policy counts items end).result ≡ outcomes.Refused refusal
+  answers_refused : (counts : Counts) (items : List Item) (end : End) (refusal : Refusal) → outcome_by command.ending (answers (task command) texts policy counts items end).result ≡ outcomes.Refused refusal
       → IsEnd counts.messages items end refusal
   answers_refused counts [] end refusal is = end_refused counts end refusal is
   answers_refused counts (Accepted found ∷ items) end refusal is =
@@ -335,10 +362,16 @@ module _ (profile : Profile) where
     tabled_judges policy outcome before now commands never (TableRefused refusal) answers = at_once_judges policy outcome before now _ refl answers
     tabled_judges policy outcome before now commands never (SurfacesRefused refusal) answers = at_once_judges policy outcome before now _ refl answers
 
+    filed_judges : (policy : Policy) (outcome : Outcome) (before now : Seen) (commands : List FieldOf → Command) → ((fields : List FieldOf) → NeverRefuses (under profile (commands fields))) → (f : Filed)
+        → IfFiled (λ fields. under profile (commands fields)) (Reading policy outcome before now) (AtOnce outcome before now) f → IfSome before.left (Judges profile policy outcome)
+    filed_judges policy outcome before now commands never (files.Good fields) answers = reading_judges policy outcome before now (commands fields) (never fields) answers
+    filed_judges policy outcome before now commands never (files.Refused refusal) answers = at_once_judges policy outcome before now _ refl answers
+
     work_judges : (work : Work) → NeverWork (by_profile profile work) → (policy : Policy) (outcome : Outcome) (before now : Seen) → AnswersWork (by_profile profile work) policy outcome before now → IfSome before.left (Judges profile policy outcome)
     work_judges (Reads command) never policy outcome before now answers = reading_judges policy outcome before now command never answers
     work_judges (Makes stated) never policy outcome before now answers = at_once_judges policy outcome before now stated never answers
     work_judges (ReadsTables asked commands) never policy outcome before now (read, stood, answers) = tabled_judges policy outcome before now commands never _ answers
+    work_judges (ReadsFile other name commands) never policy outcome before now (read, stood, answers) = filed_judges policy outcome before now commands never _ answers
 
     pub job_judges : (job : Job) (policy : Policy) (outcome : Outcome) (before now : Seen) → AnswersWork (work_under profile job) policy outcome before now → IfSome before.left (Judges profile policy outcome)
     job_judges job policy outcome before now answers = work_judges (work_of_job job) (profile_never profile (work_of_job job) (job_never job)) policy outcome before now answers

@@ -27,7 +27,7 @@ use Rattle.grib_items.specs.Laws.{is_whole}
 use Rattle.grib_items.specs.Run.{answer_of, answer_within}
 use Rattle.grib_items.specs.Steps.{Plan}
 use Rattle.grib_command.specs.declared.job.Job.{Job}
-use Rattle.grib_command.specs.declared.job.Job.TheVariants.{Check, List as Listing, Keys, Lines, Stats, Dump, Values, Coordinates, Filter, FilterNamed, Filter1, Split, Set, Set1, Repack, RepackLeast, Rescan, Crop, Within, Migrate, Demote, Make, Print}
+use Rattle.grib_command.specs.declared.job.Job.TheVariants.{Check, List as Listing, Keys, Lines, Stats, Dump, Values, Coordinates, Compare, Filter, FilterNamed, Filter1, Split, Set, Set1, Repack, RepackLeast, Rescan, Crop, Within, Migrate, Demote, Make, Print}
 use Rattle.grib_command.specs.Command.{Command, under}
 use Rattle.grib_command.specs.Jobs.{IsJob, CanChange, CanChange1, is_target}
 use Rattle.grib_edit.specs.Filtering.{filter_command}
@@ -191,6 +191,7 @@ module _ (profile : Profile) (stand : ItemsStand profile) (write : WritesAll pro
   job_leaves (Dump decimals placed) policy outcome before now is answers = tt
   job_leaves (Values format) policy outcome before now is answers = tt
   job_leaves Coordinates policy outcome before now is answers = tt
+  job_leaves (Compare name sections quiet) policy outcome before now is answers = tt
   job_leaves (Filter conditions) policy outcome before now is reading = λ unbroken.
       leaves (IsFiltered profile conditions) (IsFiltered profile conditions) (under profile (filter_command conditions)) policy outcome before now (write.filtered conditions policy)
       (λ more octets small wrote. wrote) reading unbroken

@@ -1,11 +1,12 @@
 -- The answer of a run that passes nothing.
-use Rattle.std.proofs.Common.{◌≡◌, ◌≢◌, ℕ, ◌^◌, ◌==◌, ◌&&◌, true, cond, None, Ok, Err, List, [], ◌∷◌, ◌++◌, length, refl, sym, ap, ◌∙◌, subst}
+use Rattle.std.proofs.Common.{◌≡◌, ◌≢◌, ◌⊎◌, inl, inr, ℕ, ◌^◌, ◌==◌, ◌&&◌, Bool, true, false, cond, None, Ok, Err, List, [], ◌∷◌, ◌++◌, length, refl, sym, ap, ◌∙◌, subst}
 use Rattle.std.specs.declared.result.Result.{Result}
 use Rattle.std.proofs.lemmas.Bool.{false≢true, eq-eqb}
 use Rattle.grib_stream.specs.declared.outcome.Outcome.{Outcome}
 use Rattle.grib_stream.specs.declared.outcome.Outcome.TheVariants as outcomes
 use Rattle.grib_stream.specs.declared.outcome.Outcome.TheVariants.{Done}
 use Rattle.grib_stream.specs.declared.place.Place.{Place}
+use Rattle.grib_stream.specs.declared.place.Totals.{Totals}
 use Rattle.grib_stream.specs.Answer as plain
 use Rattle.grib_stream.specs.Answer.{NotesOutcome}
 use Rattle.grib_stream.specs.Outcomes.{is_of_message}
@@ -16,14 +17,16 @@ use Rattle.grib_items.specs.Items.{Item, Accepted, Refused, End, Over, Refusing,
 use Rattle.grib_items.specs.Laws.{outcome_of, NotesCounted, IsPlain, nothing}
 use Rattle.grib_items.specs.Run.{answer_within}
 use Rattle.grib_command.specs.Command.{Command, IsLawfulCommand, given, task}
-use Rattle.grib_command.specs.Endings.{ending_note, passed_ending_note}
+use Rattle.grib_command.specs.declared.ending.Ending.{Ending}
+use Rattle.grib_command.specs.declared.ending.Ending.TheVariants.{Silent, Total, Written, Compared}
+use Rattle.grib_command.specs.Endings.{ending_note, ending_outcome, passed_ending_note}
 use Rattle.grib_command.specs.Judging.{fields_of}
 use Rattle.grib_command.specs.Outcomes.{note_of}
 use Rattle.grib_command.specs.Texts.{texts}
 use Rattle.grib_dispatch.specs.Lawful.{lawful}
 use Rattle.grib_run_spec.specs.Stated.{is_plain, outcome_by, note_by, plan_by, stated_to}
 use Rattle.grib_run_law.specs.Answered.{items_answered}
-use Rattle.grib_run_law.specs.Plain.{IsPlainly}
+use Rattle.grib_run_law.specs.Plain.{EndsAs, IsPlainly}
 use Rattle.grib_run_law.proofs.Leaving.{answer_by}
 
 -- ---- an outcome that ends a run before the end of its input is not Done
@@ -63,11 +66,32 @@ module _ (command : Command) (ends : (place : Place) (message : List ℕ) (outco
 plain_is : (totals : ItemTotals) → totals.refused ≡ 0 → totals.kept ≡ 0 → is_plain totals ≡ true
 plain_is totals refused kept = ap (λ b. b && (totals.kept == 0)) (eq-eqb totals.refused 0 refused) ∙ eq-eqb totals.kept 0 kept
 
+-- at the end of an input
+ends_differing : (b : Bool) (outcome : Outcome) → Done ≡ outcome
+    → (cond b Done outcomes.Differs ≡ outcome) ⊎ ((cond b Done outcomes.Differs ≡ outcomes.Differs) × (outcome ≡ Done))
+ends_differing true outcome is = inl is
+ends_differing false outcome is = inr (refl, sym is)
+
+ends_done : (ending : Ending) (totals : Totals) (outcome : Outcome) → Done ≡ outcome → EndsAs ending (ending_outcome ending totals) outcome
+ends_done Silent totals outcome is = is
+ends_done Total totals outcome is = is
+ends_done Written totals outcome is = is
+ends_done (Compared in_file) totals outcome is = ends_differing ((totals.written == 0) && (totals.fields == in_file)) outcome is
+
+-- and before it
+ends_same : (ending : Ending) (outcome plain : Outcome) → outcome ≡ plain → EndsAs ending outcome plain
+ends_same Silent outcome plain is = is
+ends_same Total outcome plain is = is
+ends_same Written outcome plain is = is
+ends_same (Compared in_file) outcome plain is = inl is
+
 module _ (command : Command) (answer : plain.Answer) (notes : NotesOutcome (task command) answer) where
-  same_outcome : (result : Result ItemTotals Outcome) → NotesCounted (task command) answer.note result → outcome_of result ≡ answer.outcome → outcome_by result ≡ answer.outcome
+  same_outcome : (result : Result ItemTotals Outcome) → NotesCounted (task command) answer.note result → outcome_of result ≡ answer.outcome
+      → EndsAs command.ending (outcome_by command.ending result) answer.outcome
   same_outcome (Ok totals) (note, (refused, kept)) is =
-      ap (λ b. cond b Done (outcomes.Passed totals.refused totals.kept)) (plain_is totals refused kept) ∙ is
-  same_outcome (Err outcome) note is = is
+      subst (λ b. EndsAs command.ending (cond b (ending_outcome command.ending totals.counted) (outcomes.Passed totals.refused totals.kept)) answer.outcome)
+      (sym (plain_is totals refused kept)) (ends_done command.ending totals.counted answer.outcome is)
+  same_outcome (Err outcome) note is = ends_same command.ending outcome answer.outcome is
 
   same_note : (result : Result ItemTotals Outcome) → NotesCounted (task command) answer.note result → outcome_of result ≡ answer.outcome → NotDone result → note_by command.ending result ≡ answer.note
   same_note (Ok totals) (note, (refused, kept)) is not =
@@ -76,7 +100,7 @@ module _ (command : Command) (answer : plain.Answer) (notes : NotesOutcome (task
 
 pub plainly : (command : Command) → IsLawfulCommand command → (input : List ℕ) → NotesOutcome (task command) (plain.answer_within (2 ^ 40) (task command) input)
     → IsPlain (task command) (answer_within (2 ^ 40) (plan_by command nothing) input) (plain.answer_within (2 ^ 40) (task command) input)
-    → IsPlainly (stated_to command nothing input) (plain.answer_within (2 ^ 40) (task command) input)
+    → IsPlainly command.ending (stated_to command nothing input) (plain.answer_within (2 ^ 40) (task command) input)
 plainly command law input notes is =
     let answer = plain.answer_within (2 ^ 40) (task command) input in
     let result = (answer_within (2 ^ 40) (plan_by command nothing) input).result in

@@ -31,7 +31,7 @@ module _ (Is : List ℕ → List ℕ → Type 0) (command : Command) (policy : P
     pub joined : written answer.deeds.acts ≡ concat outputs
     pub ending : answer.ending ≡ []
     pub are : AreWritten Is command policy items outputs
-    pub all : is_kept (outcome_by answer.result) ≡ false → length outputs ≡ length items
+    pub all : is_kept (outcome_by command.ending answer.result) ≡ false → length outputs ≡ length items
 
   at_end : (counts : Counts) (end : End) → Wrote [] (on_end (task command) counts end)
   at_end counts (Over skipped) = record { outputs = []; joined = refl; ending = none _; are = tt; all = λ no. refl }

@@ -167,7 +167,7 @@ pub fn what_a_run_answers_is_in_the_grammar()
 /// Where nothing is passed, the stated answer of a command is its answer to a stream of messages.
 pub fn what_passes_nothing_answers_a_stream()
     ensures { (command : Command) (input : List ℕ) → IsLawfulCommand command
-        → IsPlainly (stated_to command nothing input) (answer_within (2 ^ 40) (task command) input) }
+        → IsPlainly command.ending (stated_to command nothing input) (answer_within (2 ^ 40) (task command) input) }
 {
     nothing_is_passed();
     each_outcome_has_its_note();

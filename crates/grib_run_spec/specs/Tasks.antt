@@ -17,11 +17,13 @@ use Rattle.grib_migrate.specs.declared.labels.Local.{Local}
 use Rattle.grib_params.specs.declared.matching.TableMatch.{TableMatch}
 use Rattle.grib_table.specs.declared.together.Tables.{Tables}
 use Rattle.grib_table.specs.Together.{Asked, asked, Together, AllGood, TableRefused, SurfacesRefused, Texts, together, no_texts}
+use Rattle.grib_file.specs.Filed as files
+use Rattle.grib_file.specs.Filed.{FieldOf, Filed, filed}
 use Rattle.grib_keys.specs.declared.wanted.Wanted.{Wanted}
 use Rattle.grib_text.specs.declared.column.LineForm.{LineForm}
 use Rattle.grib_text.specs.declared.column.Column.{Column}
 use Rattle.grib_command.specs.declared.job.Job.{Job}
-use Rattle.grib_command.specs.declared.job.Job.TheVariants.{Check, List as Listing, Keys, Lines, Stats, Dump, Values, Coordinates, Filter, FilterNamed, Filter1, Split, Set, Set1, Repack, RepackLeast, Rescan, Crop, Within, Migrate, Demote, Make, Print}
+use Rattle.grib_command.specs.declared.job.Job.TheVariants.{Check, List as Listing, Keys, Lines, Stats, Dump, Values, Coordinates, Compare, Filter, FilterNamed, Filter1, Split, Set, Set1, Repack, RepackLeast, Rescan, Crop, Within, Migrate, Demote, Make, Print}
 use Rattle.grib_report.specs.Checking.{check_command}
 use Rattle.grib_command.specs.Command.{Command, task, under}
 use Rattle.grib_report.specs.Dumping.{dump_command}
@@ -49,6 +51,7 @@ use Rattle.grib_placed.specs.Dumping.{dump_placed_command}
 use Rattle.grib_placed.specs.Valuing.{value_placed_command}
 use Rattle.grib_values.specs.Arrays.{values_command}
 use Rattle.grib_values.specs.Coordinates.{coordinates_command}
+use Rattle.grib_compare.specs.Command.{compare_command}
 
 -- A stated answer: all that is done, the lines that are noted of what the run goes past, what is noted behind them, and how
 -- the run ends.
@@ -76,12 +79,14 @@ note_of_made seed ni nj target =
 abbrev pub made_answer : ℕ → ℕ → ℕ → RepackTarget → Stated
 made_answer seed ni nj target = writing (repacked (target_of target) (made seed ni nj)) (note_of_made seed ni nj target)
 
--- a job answers the messages of an input, or reads none and has one answer, or answers the messages by the tables that
--- stand on the shelf under the names that it asks for
+-- A job answers the messages of an input, or reads none and has one answer, or answers the messages by the tables that
+-- stand on the shelf under the names that it asks for, or beside the fields of the file that stands there under a name, of
+-- which messages of edition 2 are accepted by a profile.
 pub data Work : Type 0 where
   Reads : Command → Work
   Makes : Stated → Work
   ReadsTables : Asked → (Tables → Command) → Work
+  ReadsFile : Profile → List ℕ → (List FieldOf → Command) → Work
 
 -- the tables by which messages become those of the other edition: a parameter table, and a table of surfaces where one
 -- is asked for
@@ -123,6 +128,7 @@ work_of_job (Dump (Some places) false) = Reads (value_command places)
 work_of_job (Dump (Some places) true) = Reads (value_placed_command places)
 work_of_job (Values format) = Reads (values_command format)
 work_of_job Coordinates = Reads coordinates_command
+work_of_job (Compare name sections quiet) = ReadsFile profiles.Stated name (compare_command sections quiet)
 work_of_job (Filter conditions) = Reads (filter_command conditions)
 work_of_job (FilterNamed conditions name wanted) = ReadsTables (by_names name) (filtering_named conditions wanted)
 work_of_job (Filter1 conditions) = Reads (filter1_command conditions)
@@ -144,6 +150,7 @@ abbrev pub by_profile : Profile → Work → Work
 by_profile profile (Reads command) = Reads (under profile command)
 by_profile profile (Makes stated) = Makes stated
 by_profile profile (ReadsTables asked commands) = ReadsTables asked (λ tables. under profile (commands tables))
+by_profile profile (ReadsFile other name commands) = ReadsFile profile name (λ fields. under profile (commands fields))
 
 abbrev pub work_under : Profile → Job → Work
 work_under profile job = by_profile profile (work_of_job job)
@@ -157,21 +164,27 @@ IfReads (Reads command) tables P = P command
 IfReads (Makes stated) tables P = Unit {0}
 IfReads (ReadsTables asked commands) None P = Unit {0}
 IfReads (ReadsTables asked commands) (Some tables) P = P (commands tables)
+IfReads (ReadsFile profile name commands) None P = Unit {0}
+IfReads (ReadsFile profile name commands) (Some tables) P = Unit {0}
 
 abbrev pub reads_none : Work → Bool
 reads_none (Reads command) = false
 reads_none (Makes stated) = true
 reads_none (ReadsTables asked commands) = false
+reads_none (ReadsFile profile name commands) = false
 
+-- whether something is read of the shelf before the input, which stays as it is
 abbrev pub has_table : Work → Bool
 has_table (Reads command) = false
 has_table (Makes stated) = false
 has_table (ReadsTables asked commands) = true
+has_table (ReadsFile profile name commands) = true
 
 abbrev pub has_shelf : Work → Bool
 has_shelf (Reads command) = command.uses_shelf
 has_shelf (Makes stated) = false
 has_shelf (ReadsTables asked commands) = true
+has_shelf (ReadsFile profile name commands) = true
 
 -- what holds of a job that hears messages of edition 2
 abbrev pub IfHears : Job → Type 0 → Type 0
@@ -189,25 +202,32 @@ answer_by (AllGood tables) commands input = answer_within (2 ^ 40) (task (comman
 answer_by (TableRefused refusal) commands input = plainly (ends_at_once (outcomes.TableRefused refusal))
 answer_by (SurfacesRefused refusal) commands input = plainly (ends_at_once (outcomes.SurfacesRefused refusal))
 
+-- the answer by what stands under the name of the file. How the input and the file differ is told by what is printed; an
+-- input that was read to its end is `Done` here
+abbrev pub answer_beside : Filed → (List FieldOf → Command) → List ℕ → Answer
+answer_beside (files.Good fields) commands input = answer_within (2 ^ 40) (task (commands fields)) input
+answer_beside (files.Refused refusal) commands input = plainly (ends_at_once (outcomes.FileRefused refusal))
+
 abbrev pub answer_to : Work → Texts → List ℕ → Answer
 answer_to (Reads command) texts input = answer_within (2 ^ 40) (task command) input
 answer_to (Makes stated) texts input = plainly stated
 answer_to (ReadsTables asked commands) texts input = answer_by (together asked texts) commands input
+answer_to (ReadsFile profile name commands) texts input = answer_beside (filed profile texts.file) commands input
 
 -- whether a job reads no input
 abbrev pub makes : Job → Bool
 makes job = reads_none (work_of job)
 
--- whether a job reads a table from the shelf
+-- whether a job reads a table or a file from the shelf before its input
 abbrev pub reads_table : Job → Bool
 reads_table job = has_table (work_of job)
 
--- whether a job uses the shelf: it reads a table there, or puts what it makes there and writes nothing of it to the
+-- whether a job uses the shelf: it reads a table or a file there, or puts what it makes there and writes nothing of it to the
 -- output
 abbrev pub uses_shelf : Job → Bool
 uses_shelf job = has_shelf (work_of job)
 
--- the answer to a job by a profile, by what stands on the shelf under the names of its tables, if it has any, and by the
+-- the answer to a job by a profile, by what stands on the shelf under the names of its tables or of its file, if it has any, and by the
 -- input; `make` reads none
 abbrev pub answer_under : Profile → Job → Texts → List ℕ → Answer
 answer_under profile job texts input = answer_to (work_under profile job) texts input

@@ -3,7 +3,7 @@ use Rattle.std.proofs.Common.{◌≡◌, ◌≢◌, ℕ, ◌<◌, ◌≤◌, tru
 use Rattle.std.proofs.lemmas.Bool.{lt-ltb, le-ltb, cond-true, cond-false, false≢true}
 use Rattle.grib_base.specs.Rows.{choose}
 use Rattle.grib_stream.specs.declared.outcome.Outcome.{Outcome}
-use Rattle.grib_stream.specs.declared.outcome.Outcome.TheVariants.{Done, Passed, Usage, Refused, Kept, TableRefused, SurfacesRefused, ReadFault, WriteFault, ShelfFault, Memory, InputTooLong}
+use Rattle.grib_stream.specs.declared.outcome.Outcome.TheVariants.{Done, Passed, Differs, Usage, Refused, Kept, TableRefused, SurfacesRefused, FileRefused, ReadFault, WriteFault, ShelfFault, Memory, InputTooLong}
 use Rattle.grib_stream.specs.Outcomes.{is_broken, is_cut_short, is_cut_within, is_open, is_truncated, is_of_message}
 use Rattle.grib_stream.specs.Task.{Task}
 use Rattle.grib_stream.specs.Answer.{Answer, answer_of, answer_within, at_limit}
@@ -44,9 +44,11 @@ of_message (Refused refusal) is = record {
 of_message (Kept kept) is = record { closed = refl; not_done = λ e. cc; not_long = λ e. cc; not_read = λ e. cc }
 of_message Done is = absurd (false≢true is)
 of_message (Passed refused kept) is = absurd (false≢true is)
+of_message Differs is = absurd (false≢true is)
 of_message (Usage word) is = absurd (false≢true is)
 of_message (TableRefused refusal) is = absurd (false≢true is)
 of_message (SurfacesRefused refusal) is = absurd (false≢true is)
+of_message (FileRefused refusal) is = absurd (false≢true is)
 of_message ReadFault is = absurd (false≢true is)
 of_message WriteFault is = absurd (false≢true is)
 of_message ShelfFault is = absurd (false≢true is)
@@ -61,11 +63,13 @@ cut_broken Memory cut = refl
 cut_broken ReadFault cut = absurd (false≢true cut)
 cut_broken Done cut = absurd (false≢true cut)
 cut_broken (Passed refused kept) cut = absurd (false≢true cut)
+cut_broken Differs cut = absurd (false≢true cut)
 cut_broken (Usage word) cut = absurd (false≢true cut)
 cut_broken (Refused refusal) cut = absurd (false≢true cut)
 cut_broken (Kept kept) cut = absurd (false≢true cut)
 cut_broken (TableRefused refusal) cut = absurd (false≢true cut)
 cut_broken (SurfacesRefused refusal) cut = absurd (false≢true cut)
+cut_broken (FileRefused refusal) cut = absurd (false≢true cut)
 cut_broken ShelfFault cut = absurd (false≢true cut)
 cut_broken InputTooLong cut = absurd (false≢true cut)
 
@@ -82,9 +86,11 @@ cut_within Memory cut = record { broken = refl; not_done = λ e. cc; not_read = 
 cut_within ReadFault cut = absurd (false≢true cut)
 cut_within Done cut = absurd (false≢true cut)
 cut_within (Passed refused kept) cut = absurd (false≢true cut)
+cut_within Differs cut = absurd (false≢true cut)
 cut_within (Usage word) cut = absurd (false≢true cut)
 cut_within (Refused refusal) cut = absurd (false≢true cut)
 cut_within (Kept kept) cut = absurd (false≢true cut)
 cut_within (TableRefused refusal) cut = absurd (false≢true cut)
 cut_within (SurfacesRefused refusal) cut = absurd (false≢true cut)
+cut_within (FileRefused refusal) cut = absurd (false≢true cut)
 cut_within InputTooLong cut = absurd (false≢true cut)

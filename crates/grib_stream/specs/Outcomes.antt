@@ -2,18 +2,27 @@
 use Rattle.std.specs.Prelude.{◌≡◌, ◌⊎◌, ℕ, ◌==◌, Bool, true, false, not, cond}
 use Rattle.grib_base.specs.declared.fault.Reason.{Reason}
 use Rattle.grib_base.specs.declared.fault.Reason.TheVariants.{Truncated}
+use Rattle.grib_stream.specs.declared.outcome.FileRefusal.{FileRefusal}
+use Rattle.grib_stream.specs.declared.outcome.FileRefusal.TheVariants as files
 use Rattle.grib_stream.specs.declared.outcome.Outcome.{Outcome}
-use Rattle.grib_stream.specs.declared.outcome.Outcome.TheVariants.{Done, Passed, Usage, Refused, Kept, TableRefused, SurfacesRefused, ReadFault, WriteFault, ShelfFault, Memory, InputTooLong}
+use Rattle.grib_stream.specs.declared.outcome.Outcome.TheVariants.{Done, Passed, Differs, Usage, Refused, Kept, TableRefused, SurfacesRefused, FileRefused, ReadFault, WriteFault, ShelfFault, Memory, InputTooLong}
+
+-- the exit status where a file is not compared: it is absent, or a message of it is refused
+abbrev pub file_status : FileRefusal → ℕ
+file_status files.Absent = 4
+file_status (files.Refused refusal) = 2
 
 -- the exit status
 abbrev pub status_of : Outcome → ℕ
 status_of Done = 0
 status_of (Passed refused kept) = cond (refused == 0) 3 2
+status_of Differs = 12
 status_of (Usage word) = 1
 status_of (Refused refusal) = 2
 status_of (Kept kept) = 3
 status_of (TableRefused refusal) = 4
 status_of (SurfacesRefused refusal) = 4
+status_of (FileRefused refusal) = file_status refusal
 status_of ReadFault = 5
 status_of WriteFault = 6
 status_of ShelfFault = 7
@@ -24,11 +33,13 @@ status_of InputTooLong = 9
 abbrev pub is_broken : Outcome → Bool
 is_broken Done = false
 is_broken (Passed refused kept) = false
+is_broken Differs = false
 is_broken (Usage word) = false
 is_broken (Refused refusal) = false
 is_broken (Kept kept) = false
 is_broken (TableRefused refusal) = false
 is_broken (SurfacesRefused refusal) = false
+is_broken (FileRefused refusal) = false
 is_broken ReadFault = true
 is_broken WriteFault = true
 is_broken ShelfFault = true
@@ -39,11 +50,13 @@ is_broken InputTooLong = false
 abbrev pub is_cut_short : Outcome → Bool
 is_cut_short Done = false
 is_cut_short (Passed refused kept) = false
+is_cut_short Differs = false
 is_cut_short (Usage word) = false
 is_cut_short (Refused refusal) = false
 is_cut_short (Kept kept) = false
 is_cut_short (TableRefused refusal) = false
 is_cut_short (SurfacesRefused refusal) = false
+is_cut_short (FileRefused refusal) = false
 is_cut_short ReadFault = false
 is_cut_short WriteFault = true
 is_cut_short ShelfFault = false
@@ -55,11 +68,13 @@ is_cut_short InputTooLong = false
 abbrev pub is_cut_within : Outcome → Bool
 is_cut_within Done = false
 is_cut_within (Passed refused kept) = false
+is_cut_within Differs = false
 is_cut_within (Usage word) = false
 is_cut_within (Refused refusal) = false
 is_cut_within (Kept kept) = false
 is_cut_within (TableRefused refusal) = false
 is_cut_within (SurfacesRefused refusal) = false
+is_cut_within (FileRefused refusal) = false
 is_cut_within ReadFault = false
 is_cut_within WriteFault = true
 is_cut_within ShelfFault = true
@@ -75,11 +90,13 @@ is_truncated _ = false
 abbrev pub is_open : Outcome → Bool
 is_open Done = true
 is_open (Passed refused kept) = true
+is_open Differs = true
 is_open (Usage word) = false
 is_open (Refused refusal) = is_truncated refusal.fault.reason
 is_open (Kept kept) = false
 is_open (TableRefused refusal) = false
 is_open (SurfacesRefused refusal) = false
+is_open (FileRefused refusal) = false
 is_open ReadFault = false
 is_open WriteFault = false
 is_open ShelfFault = false
@@ -90,11 +107,13 @@ is_open InputTooLong = false
 abbrev pub is_of_message : Outcome → Bool
 is_of_message Done = false
 is_of_message (Passed refused kept) = false
+is_of_message Differs = false
 is_of_message (Usage word) = false
 is_of_message (Refused refusal) = not (is_truncated refusal.fault.reason)
 is_of_message (Kept kept) = true
 is_of_message (TableRefused refusal) = false
 is_of_message (SurfacesRefused refusal) = false
+is_of_message (FileRefused refusal) = false
 is_of_message ReadFault = false
 is_of_message WriteFault = false
 is_of_message ShelfFault = false

@@ -16,7 +16,7 @@ pub use gathering::{LIMIT, Rest, gather, probe, read_on};
 pub use grib_reasons::{Cause, Kept, Loss, TableRefusal};
 pub use hearing::{Deaf, HearStop, Hearer};
 pub use listening::answer_heard;
-pub use outcome::{Outcome, is_truncated};
+pub use outcome::{FileRefusal, Outcome, is_truncated};
 pub use performer::{Extent, Performed, Performer, Whole};
 pub use place::{Place, Totals};
 pub use searching::octets_before_mark;

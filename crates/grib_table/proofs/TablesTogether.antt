@@ -54,7 +54,7 @@ module _ (shelf : Option Held) (asked : Asked) where
   join : (parameters : Tabled Entries) (surfaces : Tabled SurfaceEntries) (names : Tabled NameEntries) → StandsWhere parameters_of shelf asked.parameters parameters
       → StandsWhere surfaces_of shelf asked.surfaces surfaces → StandsWhere names_of shelf asked.names names → StandsAs shelf asked (together_by parameters surfaces names)
   join parameters surfaces names first second third = (
-    record { parameters = first.0; surfaces = second.0; names = third.0 },
+    record { parameters = first.0; surfaces = second.0; names = third.0; file = None },
     (first.1, (second.1, third.1)),
     ap (λ (t : Tabled Entries). together_by t (tabled_where surfaces_of asked.surfaces second.0) (tabled_where names_of asked.names third.0)) first.2
         ∙ (ap (λ (t : Tabled SurfaceEntries). together_by parameters t (tabled_where names_of asked.names third.0)) second.2

@@ -24,14 +24,15 @@ pub record Asked : Type 0 where
 abbrev pub asked : Option (List ℕ) → Option (List ℕ) → Option (List ℕ) → Asked
 asked parameters surfaces names = record { parameters = parameters; surfaces = surfaces; names = names }
 
--- what stands under them
+-- what stands under them, and, where an input is compared with a file, what stands under the name of that file
 pub record Texts : Type 0 where
   pub parameters : Option (List ℕ)
   pub surfaces : Option (List ℕ)
   pub names : Option (List ℕ)
+  pub file : Option (List ℕ)
 
 abbrev pub no_texts : Texts
-no_texts = record { parameters = None; surfaces = None; names = None }
+no_texts = record { parameters = None; surfaces = None; names = None; file = None }
 
 -- the tables, or why there are none: the first of them that is refused
 pub data Together : Type 0 where

@@ -553,6 +553,7 @@ is_job Dump words read = record {
 }
 is_job the.Values words read = record { target_stands = refl; size_stands = tt; changes_stand = no_changes; changes1_stand = no_changes1; places_stand = tt; area_stands = tt }
 is_job the.Coordinates words read = record { target_stands = refl; size_stands = tt; changes_stand = no_changes; changes1_stand = no_changes1; places_stand = tt; area_stands = tt }
+is_job the.Compare words read = record { target_stands = refl; size_stands = tt; changes_stand = no_changes; changes1_stand = no_changes1; places_stand = tt; area_stands = tt }
 is_job the.Keys words read =
     one_of (has_name (codes "show") words) _ _
     (lines_job forms.Show (columns_in (value_of (codes "show") words)) (value_if_given (codes "names") words))

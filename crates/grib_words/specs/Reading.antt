@@ -10,7 +10,7 @@ use Rattle.grib1_sections.specs.declared.key.Key1.{Key1}
 use Rattle.grib1_sections.specs.Keys.{key1_named, can_set1}
 use Rattle.grib_words.specs.declared.command.Command.{Command}
 use Rattle.grib_words.specs.declared.command.Command.TheVariants as the
-use Rattle.grib_words.specs.declared.command.Command.TheVariants.{Check, Keys, Stats, Dump, Values, Coordinates, Filter, Split, Set, Repack, Migrate, Demote, Rescan, Crop, Make, Help, Version}
+use Rattle.grib_words.specs.declared.command.Command.TheVariants.{Check, Keys, Stats, Dump, Values, Coordinates, Filter, Split, Set, Repack, Migrate, Demote, Rescan, Crop, Compare, Make, Help, Version}
 use Rattle.grib_words.specs.Choices.{is_test}
 use Rattle.grib_words.specs.Columns.{is_columns, are_names}
 use Rattle.grib_numbers.specs.Numbers.{number, is_between, signed_number}
@@ -193,6 +193,7 @@ past_entries Stats = passed_entry (codes "refused") ∷ []
 past_entries Dump = passed_entry (codes "refused") ∷ passed_entry (codes "kept") ∷ []
 past_entries Values = passed_entry (codes "refused") ∷ passed_entry (codes "kept") ∷ []
 past_entries Coordinates = passed_entry (codes "refused") ∷ passed_entry (codes "kept") ∷ []
+past_entries Compare = []
 past_entries Make = []
 past_entries Help = []
 past_entries Version = []
@@ -363,6 +364,10 @@ row_of Demote =
     (has_name (codes "params"))
 row_of Rescan = row (codes "rescan") [] nothing
 row_of Crop = row (codes "crop") crop_entries has_crop
+row_of Compare =
+    row (codes "compare")
+    (entry (is (codes "with")) is_not_empty ∷ entry (is (codes "sections")) (is (codes "all")) ∷ entry (is (codes "quiet")) (is (codes "yes")) ∷ [])
+    (has_name (codes "with"))
 row_of Make =
     row (codes "make") (size_entries ++ target_entries)
     (λ words. has_name (codes "seed") words && (has_name (codes "ni") words && (has_name (codes "nj") words && has_target words)))
@@ -381,7 +386,7 @@ reads_input command = true
 
 abbrev pub commands : List Command
 commands =
-    Check ∷ the.List ∷ Keys ∷ Stats ∷ Dump ∷ Values ∷ Coordinates ∷ Filter ∷ Split ∷ Set ∷ Repack ∷ Migrate ∷ Demote ∷ Rescan ∷ Crop ∷ Make ∷ Help ∷ Version ∷ []
+    Check ∷ the.List ∷ Keys ∷ Stats ∷ Dump ∷ Values ∷ Coordinates ∷ Filter ∷ Split ∷ Set ∷ Repack ∷ Migrate ∷ Demote ∷ Rescan ∷ Crop ∷ Compare ∷ Make ∷ Help ∷ Version ∷ []
 
 -- whether a word is the name of a command; those on the program itself may have `--` before their names
 abbrev pub is_called : Command → List ℕ → Bool

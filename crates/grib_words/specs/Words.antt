@@ -208,6 +208,7 @@ job_of_command commands.Demote words =
     Ok (jobs.Demote (value_of (codes "params") words) (has_name (codes "local") words) (has_name (codes "earth") words) (matching_of words))
 job_of_command commands.Rescan words = Ok jobs.Rescan
 job_of_command commands.Crop words = Ok (crop_of words)
+job_of_command commands.Compare words = Ok (jobs.Compare (value_of (codes "with") words) (has_name (codes "sections") words) (has_name (codes "quiet") words))
 job_of_command commands.Make words =
     Ok (jobs.Make (number_of (codes "seed") words) (number_of (codes "ni") words) (number_of (codes "nj") words) (target_of words))
 job_of_command commands.Help words = Ok (jobs.Print pages.Help)

@@ -64,6 +64,11 @@ pub fn job_of_command(alloc: Global, command: Command, words: &[String]) -> Resu
         }),
         Command::Rescan => Ok(Job::Rescan),
         Command::Crop => Ok(crop_of(words)),
+        Command::Compare => Ok(Job::Compare {
+            file: name_by(alloc, words, "with")?,
+            sections: has_name(words, "sections"),
+            quiet: has_name(words, "quiet"),
+        }),
         Command::Help => Ok(Job::Print(Page::Help)),
         Command::Version => Ok(Job::Print(Page::Version)),
     }

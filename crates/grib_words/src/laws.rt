@@ -14,7 +14,7 @@ ghost use Rattle.grib2_message.specs.Fields.{field_count};
 ghost use Rattle.grib2_message.specs.Message.{IsAnyMessage};
 ghost use Rattle.grib_select.specs.Bounds.{IsWithin64};
 ghost use Rattle.grib_select.specs.Values.{key_value_of, fulfils_all};
-ghost use Rattle.grib_words.specs.declared.command.Command.TheVariants.{Check, List as ListFields, Keys, Dump, Coordinates, Filter, Split, Set, Repack, Migrate, Demote, Crop, Help, Version};
+ghost use Rattle.grib_words.specs.declared.command.Command.TheVariants.{Check, List as ListFields, Keys, Dump, Coordinates, Filter, Split, Set, Repack, Migrate, Demote, Crop, Compare, Help, Version};
 ghost use Rattle.grib_words.specs.Reading.{command_named, reading};
 ghost use Rattle.grib_words.specs.Words.{change, change_of, change1_of, wanted, wanted_of, wanted1, wanted1_of, conditions_of};
 
@@ -122,6 +122,7 @@ pub fn read_lines()
     ensures coordinates { reading (codes "coordinates" ∷ codes "kept=pass" ∷ codes "profile=open" ∷ []) ≡ Ok Coordinates }
     ensures in_degrees { reading (codes "crop" ∷ codes "west=350" ∷ codes "east=10.5" ∷ codes "south=-1" ∷ codes "north=-0.5" ∷ []) ≡ Ok Crop }
     ensures nearest { reading (codes "crop" ∷ codes "lon=-0.125" ∷ codes "kept=copy" ∷ codes "lat=51.5" ∷ []) ≡ Ok Crop }
+    ensures compared { reading (codes "compare" ∷ codes "quiet=yes" ∷ codes "with=a b" ∷ codes "sections=all" ∷ codes "profile=open" ∷ []) ≡ Ok Compare }
     ensures both_editions { reading (codes "split" ∷ codes "editions=both" ∷ codes "out=p" ∷ []) ≡ Ok Split }
     ensures asked_not { reading (codes "filter" ∷ codes "kept=pass" ∷ codes "surface1Value!=missing" ∷ []) ≡ Ok Filter }
 {}

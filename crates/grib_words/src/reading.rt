@@ -103,7 +103,7 @@ fn takes_past(command: Command, name: &str, value: &str) -> bool
     ensures { result ≡ grammar.takes (past_entries command) name.now value.now }
 {
     match command {
-        Command::Make | Command::Help | Command::Version => false,
+        Command::Compare | Command::Make | Command::Help | Command::Version => false,
         Command::Check | Command::List | Command::Keys | Command::Stats => {
             name == "refused" && value == "pass"
         }
@@ -167,6 +167,11 @@ fn takes_own(command: Command, name: &str, value: &str) -> bool
                 || (matches!(name, "earth" | "tables") && value == "any")
         }
         Command::Crop => takes_part(name, value),
+        Command::Compare => {
+            (name == "with" && !value.is_empty())
+                || (name == "sections" && value == "all")
+                || (name == "quiet" && value == "yes")
+        }
         Command::Make => takes_size(name, value) || takes_target(name, value),
     }
 }
@@ -235,6 +240,7 @@ fn is_complete(command: Command, words: &[String]) -> bool
         Command::Repack => has_target(words) && has_profile_of_target(words),
         Command::Migrate | Command::Demote => has_name(words, "params"),
         Command::Crop => has_crop(words),
+        Command::Compare => has_name(words, "with"),
         Command::Make => {
             has_name(words, "seed")
                 && has_name(words, "ni")

@@ -1,5 +1,5 @@
 use Rattle.std.proofs.Common.{refl, sym, ap, ◌∙◌}
-use Rattle.grib_stream.specs.declared.outcome.Outcome.TheVariants.{Kept, Memory, Passed, Refused, SurfacesRefused, TableRefused, Usage}
+use Rattle.grib_stream.specs.declared.outcome.Outcome.TheVariants.{FileRefused, Kept, Memory, Passed, Refused, SurfacesRefused, TableRefused, Usage}
 use Rattle.grib_command.specs.Outcomes.{note_with}
 use Rattle.grib_command.proofs.Noted.{ends_by, stands_by}
 use Rattle.grib_engine.proofs.closing.close_with_note.Goals as goal
@@ -29,6 +29,11 @@ returns-in-Ok-surfaces_note-clause-ends g c =
     ends_by g.T.Sink.contents g.T.Sink.faults g.T.Sink.settled g.N.Sink.contents g.N.Sink.faults g.N.Sink.settled _ _ _ _ c.args.outcome (SurfacesRefused c.in-SurfacesRefused.refusal) c.args.done.now _
     c.close-in-Ok-surfaces_note.result (sym c.in-SurfacesRefused.is) (c.as_slice-in-Ok-surfaces_note.ensures.value ∙ c.in-Ok-surfaces_note.ensures) c.close-in-Ok-surfaces_note.ensures.closes
 
+pub returns-in-Ok-file_note-clause-ends : goal.returns-in-Ok-file_note-clause-ends
+returns-in-Ok-file_note-clause-ends g c =
+    ends_by g.T.Sink.contents g.T.Sink.faults g.T.Sink.settled g.N.Sink.contents g.N.Sink.faults g.N.Sink.settled _ _ _ _ c.args.outcome (FileRefused c.in-FileRefused.refusal) c.args.done.now _
+    c.close-in-Ok-file_note.result (sym c.in-FileRefused.is) (c.as_slice-in-Ok-file_note.ensures.value ∙ c.in-Ok-file_note.ensures) c.close-in-Ok-file_note.ensures.closes
+
 pub returns-in-Ok-passed_note-clause-ends : goal.returns-in-Ok-passed_note-clause-ends
 returns-in-Ok-passed_note-clause-ends g c =
     ends_by g.T.Sink.contents g.T.Sink.faults g.T.Sink.settled g.N.Sink.contents g.N.Sink.faults g.N.Sink.settled _ _ _ _ c.args.outcome (Passed c.in-Passed.refused c.in-Passed.kept) c.args.done.now _
@@ -48,6 +53,11 @@ pub returns-in-InputTooLong-clause-ends : goal.returns-in-InputTooLong-clause-en
 returns-in-InputTooLong-clause-ends g c =
     ends_by g.T.Sink.contents g.T.Sink.faults g.T.Sink.settled g.N.Sink.contents g.N.Sink.faults g.N.Sink.settled _ _ _ _ c.args.outcome c.args.outcome c.args.done.now _
     c.close-in-InputTooLong.result refl (sym (ap (note_with c.args.done.now) c.in-InputTooLong.is)) c.close-in-InputTooLong.ensures.closes
+
+pub returns-in-Differs-clause-ends : goal.returns-in-Differs-clause-ends
+returns-in-Differs-clause-ends g c =
+    ends_by g.T.Sink.contents g.T.Sink.faults g.T.Sink.settled g.N.Sink.contents g.N.Sink.faults g.N.Sink.settled _ _ _ _ c.args.outcome c.args.outcome c.args.done.now _
+    c.close-in-Differs.result refl (sym (ap (note_with c.args.done.now) c.in-Differs.is)) c.close-in-Differs.ensures.closes
 
 pub returns-in-Ok-clause-whole : goal.returns-in-Ok-clause-whole
 returns-in-Ok-clause-whole g c = λ off notes_off.
@@ -89,6 +99,10 @@ pub returns-in-Ok-surfaces_note-clause-whole : goal.returns-in-Ok-surfaces_note-
 returns-in-Ok-surfaces_note-clause-whole g c = λ off notes_off.
     stands_by g.T.Sink.settled g.N.Sink.contents g.N.Sink.settled c.close-in-Ok-surfaces_note.new.output c.args.notes.now c.close-in-Ok-surfaces_note.new.notes c.args.done.now _ (SurfacesRefused c.in-SurfacesRefused.refusal) c.close-in-Ok-surfaces_note.result (c.as_slice-in-Ok-surfaces_note.ensures.value ∙ c.in-Ok-surfaces_note.ensures) (c.close-in-Ok-surfaces_note.ensures.whole off notes_off)
 
+pub returns-in-Ok-file_note-clause-whole : goal.returns-in-Ok-file_note-clause-whole
+returns-in-Ok-file_note-clause-whole g c = λ off notes_off.
+    stands_by g.T.Sink.settled g.N.Sink.contents g.N.Sink.settled c.close-in-Ok-file_note.new.output c.args.notes.now c.close-in-Ok-file_note.new.notes c.args.done.now _ (FileRefused c.in-FileRefused.refusal) c.close-in-Ok-file_note.result (c.as_slice-in-Ok-file_note.ensures.value ∙ c.in-Ok-file_note.ensures) (c.close-in-Ok-file_note.ensures.whole off notes_off)
+
 pub returns-in-Err-table_note-clause-whole : goal.returns-in-Err-table_note-clause-whole
 returns-in-Err-table_note-clause-whole g c = λ off notes_off.
     stands_by g.T.Sink.settled g.N.Sink.contents g.N.Sink.settled c.close-in-Err-table_note.new.output c.args.notes.now c.close-in-Err-table_note.new.notes c.args.done.now _ Memory c.close-in-Err-table_note.result refl (c.close-in-Err-table_note.ensures.whole off notes_off)
@@ -97,6 +111,10 @@ pub returns-in-Err-surfaces_note-clause-whole : goal.returns-in-Err-surfaces_not
 returns-in-Err-surfaces_note-clause-whole g c = λ off notes_off.
     stands_by g.T.Sink.settled g.N.Sink.contents g.N.Sink.settled c.close-in-Err-surfaces_note.new.output c.args.notes.now c.close-in-Err-surfaces_note.new.notes c.args.done.now _ Memory c.close-in-Err-surfaces_note.result refl (c.close-in-Err-surfaces_note.ensures.whole off notes_off)
 
+pub returns-in-Err-file_note-clause-whole : goal.returns-in-Err-file_note-clause-whole
+returns-in-Err-file_note-clause-whole g c = λ off notes_off.
+    stands_by g.T.Sink.settled g.N.Sink.contents g.N.Sink.settled c.close-in-Err-file_note.new.output c.args.notes.now c.close-in-Err-file_note.new.notes c.args.done.now _ Memory c.close-in-Err-file_note.result refl (c.close-in-Err-file_note.ensures.whole off notes_off)
+
 pub returns-in-Done-clause-whole : goal.returns-in-Done-clause-whole
 returns-in-Done-clause-whole g c = λ off notes_off.
     stands_by g.T.Sink.settled g.N.Sink.contents g.N.Sink.settled c.close-in-Done.new.output c.args.notes.now c.close-in-Done.new.notes c.args.done.now _ c.args.outcome c.close-in-Done.result (sym (ap (note_with c.args.done.now) c.in-Done.is)) (c.close-in-Done.ensures.whole off notes_off)
@@ -104,6 +122,10 @@ returns-in-Done-clause-whole g c = λ off notes_off.
 pub returns-in-WriteFault-clause-whole : goal.returns-in-WriteFault-clause-whole
 returns-in-WriteFault-clause-whole g c = λ off notes_off.
     stands_by g.T.Sink.settled g.N.Sink.contents g.N.Sink.settled c.close-in-WriteFault.new.output c.args.notes.now c.close-in-WriteFault.new.notes c.args.done.now _ c.args.outcome c.close-in-WriteFault.result (sym (ap (note_with c.args.done.now) c.in-WriteFault.is)) (c.close-in-WriteFault.ensures.whole off notes_off)
+
+pub returns-in-Differs-clause-whole : goal.returns-in-Differs-clause-whole
+returns-in-Differs-clause-whole g c = λ off notes_off.
+    stands_by g.T.Sink.settled g.N.Sink.contents g.N.Sink.settled c.close-in-Differs.new.output c.args.notes.now c.close-in-Differs.new.notes c.args.done.now _ c.args.outcome c.close-in-Differs.result (sym (ap (note_with c.args.done.now) c.in-Differs.is)) (c.close-in-Differs.ensures.whole off notes_off)
 
 pub returns-in-ReadFault-clause-whole : goal.returns-in-ReadFault-clause-whole
 returns-in-ReadFault-clause-whole g c = λ off notes_off.

@@ -33,10 +33,10 @@ pub returns-in-Ok-clause-soon : goal.returns-in-Ok-clause-soon
 returns-in-Ok-clause-soon g c = λ nothing hears.
     let command = under c.args.profile (g.C.Answerer.definition c.args.answerer.now) in
     soon_heard command.hears (task command) c.close_at_end.result _ _ hears
-    (soon_by (hears_by command.hears) (task command) (Ok c.in-Ok.totals) c.close_at_end.result _ _ c.close_at_end.ensures.ends.one_of (c.in-Ok.ensures.soon nothing))
+    (soon_by c.ending.result (hears_by command.hears) (task command) (Ok c.in-Ok.totals) c.close_at_end.result _ _ c.close_at_end.ensures.ends.one_of (c.in-Ok.ensures.soon nothing))
 
 pub returns-in-Err-clause-soon : goal.returns-in-Err-clause-soon
 returns-in-Err-clause-soon g c = λ nothing hears.
     let command = under c.args.profile (g.C.Answerer.definition c.args.answerer.now) in
     soon_heard command.hears (task command) c.close_with_note.result _ _ hears
-    (soon_by (hears_by command.hears) (task command) (Err c.in-Err.outcome) c.close_with_note.result _ _ c.close_with_note.ensures.ends.one_of (c.in-Err.ensures.soon nothing))
+    (soon_by command.ending (hears_by command.hears) (task command) (Err c.in-Err.outcome) c.close_with_note.result _ _ c.close_with_note.ensures.ends.one_of (c.in-Err.ensures.soon nothing))

@@ -36,6 +36,13 @@ returns-in-Print-clause-serves g c =
     subst (λ job. Serves (g.T.Sink.takes_memory || g.N.Sink.takes_memory) (work_under c.args.profile job) c.args.policy c.write_noted.result before now) (sym c.in-Print.is)
     (subst (λ octets. Serves (g.T.Sink.takes_memory || g.N.Sink.takes_memory) (Makes (writing octets [])) c.args.policy c.write_noted.result before now) text (c.write_noted.ensures before c.args.policy))
 
+pub returns-in-Compare-clause-serves : goal.returns-in-Compare-clause-serves
+returns-in-Compare-clause-serves g c =
+    let see = seen g.S.Source.left g.S.Source.faults g.T.Sink.contents g.T.Sink.faults g.T.Sink.settled g.N.Sink.contents g.N.Sink.faults g.N.Sink.settled g.H.Shelf.contents g.H.Shelf.faults in
+    let before = see c.args.input.now c.args.output.now c.args.notes.now c.args.shelf.now in
+    let now = see c.serve_compared.new.input c.serve_compared.new.output c.serve_compared.new.notes c.serve_compared.new.shelf in
+    subst (λ job. Serves (g.T.Sink.takes_memory || g.N.Sink.takes_memory) (work_under c.args.profile job) c.args.policy c.serve_compared.result before now) (sym c.in-Compare.is) c.serve_compared.ensures.serves
+
 pub returns-in-Migrate-clause-serves : goal.returns-in-Migrate-clause-serves
 returns-in-Migrate-clause-serves g c =
     let see = seen g.S.Source.left g.S.Source.faults g.T.Sink.contents g.T.Sink.faults g.T.Sink.settled g.N.Sink.contents g.N.Sink.faults g.N.Sink.settled g.H.Shelf.contents g.H.Shelf.faults in

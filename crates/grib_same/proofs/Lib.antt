@@ -1,0 +1,5 @@
+pub mod Differences
+pub mod Levels
+pub mod Wholes
+pub mod Lines
+pub mod Decisions

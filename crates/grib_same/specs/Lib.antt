@@ -1,0 +1,4 @@
+pub mod Sameness
+pub mod Scales
+pub mod Levels
+pub mod Wholes
