@@ -33,7 +33,7 @@ WORDS = {
     "migrate": ["params=/nonexistent/table", "surfaces=/nonexistent/surfaces", "local=ecmwf"],
     "demote": ["params=/nonexistent/table", "local=keep", "earth=any", "tables=any"],
     "keys": ["show=centre,octets", "names=/nonexistent/names"], "help": [], "version": [],
-    "make": ["seed=1", "ni=1", "nj=1", "to=3", "order=2"],
+    "compare": ["with=/nonexistent/file", "sections=all", "quiet=yes"], "make": ["seed=1", "ni=1", "nj=1", "to=3", "order=2"],
 }
 # Other arguments of a command that do not stand beside these.
 OTHER_WAYS = {"crop": [["north=1", "south=0", "west=-0.5", "east=1"], ["lat=1.25", "lon=-360"]]}
@@ -42,11 +42,11 @@ PAST = {command: ["refused=pass", "kept=copy"] for command in ("filter", "set", 
 PAST.update({command: ["refused=pass"] for command in ("check", "list", "keys", "stats")}, dump=["refused=pass", "kept=pass"], values=["refused=pass", "kept=pass"],
             coordinates=["refused=pass", "kept=pass"])
 # `profile=open`, of each command that reads messages.
-PROFILE = {command: ["profile=open"] for command in PAST}
+PROFILE = {command: ["profile=open"] for command in [*PAST, "compare"]}
 # The pages that say how many keys there are.
 COUNTING = ["README.md", "docs/GUIDE.md", "docs/PROFILE.md", "docs/GLOSSARY.md", "docs/GUARANTEES.md", "docs/DEFINITIONS.md"]
-NOT_PAST = {"check": "kept=pass", "list": "refused=skip", "dump": "kept=copy", "values": "kept=copy", "coordinates": "kept=copy", "make": "refused=pass", "version": "refused=pass"}
-NOT_PROFILE = {**dict.fromkeys(PAST, "profile=stated"), "make": "profile=open", "version": "profile=open"}
+NOT_PAST = {"check": "kept=pass", "compare": "refused=pass", "list": "refused=skip", "dump": "kept=copy", "values": "kept=copy", "coordinates": "kept=copy", "make": "refused=pass", "version": "refused=pass"}
+NOT_PROFILE = {**dict.fromkeys(PROFILE, "profile=stated"), "make": "profile=open", "version": "profile=open"}
 failed = []
 
 

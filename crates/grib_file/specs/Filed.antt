@@ -16,6 +16,11 @@ pub record FieldOf : Type 0 where
 abbrev pub field_of : List ℕ → ℕ → FieldOf
 field_of message number = record { message = message; number = number }
 
+-- the fields of a file that was read by a profile
+pub record FileFields : Type 0 where
+  pub profile : Profile
+  pub fields : List FieldOf
+
 -- the fields of a message; one of edition 1 has one
 abbrev pub fields_in : Found → List FieldOf
 fields_in found = map (field_of found.octets) (range_with_len 1 (fields_of found.octets))

@@ -1,2 +1,6 @@
 pub mod Filed
 pub mod Read
+pub mod Stops
+pub mod Entries
+pub mod Finding
+pub mod Fronts

@@ -1,12 +1,12 @@
 -- What was read of a file that stands on a shelf under a name.
-use Rattle.std.specs.Prelude.{◌≡◌, ℕ, ◌≤◌, List, Option, Result, Ok, Err, All, length, true}
+use Rattle.std.specs.Prelude.{◌≡◌, ℕ, ◌≤◌, List, Option, Result, Ok, Err, length, true}
 use Rattle.grib_base.specs.declared.profile.Profile.{Profile}
 use Rattle.grib_io.specs.Outside.{Counted}
 use Rattle.grib_io.specs.Shelves.{Held}
 use Rattle.grib_table.specs.Tabled.{Stood}
 use Rattle.grib_stream.specs.Stream.{Message, begins}
 use Rattle.grib_command.specs.Judging.{judge_under, fields_of}
-use Rattle.grib_file.specs.Filed.{FieldOf, Filed, Good, Refused, filed}
+use Rattle.grib_file.specs.Filed.{FieldOf, FileFields, Filed, Good, Refused, filed}
 use Rattle.grib_file.specs.declared.stop.FileStop.{FileStop}
 use Rattle.grib_file.specs.declared.stop.FileStop.TheVariants as stops
 
@@ -16,11 +16,6 @@ pub record IsFieldOf (profile : Profile) (field : FieldOf) : Type 0 where
   pub accepted : judge_under profile field.message ≡ Message (length field.message)
   pub first : 1 ≤ field.number
   pub last : field.number ≤ fields_of field.message
-
--- the fields of a file that was read by a profile
-pub record FileFields : Type 0 where
-  pub profile : Profile
-  pub fields : List FieldOf
 
 -- what stands under the name is this file; where the shelf does not tell it, some file is
 abbrev pub StandsAs : Profile → Option Held → List ℕ → Filed → Type 0
@@ -38,6 +33,6 @@ CountsFileStop (stops.Refused refusal) before now = now ≡ before
 CountsFileStop stops.ShelfFault before now = Counted before now
 CountsFileStop stops.Memory before now = now ≡ before
 
-abbrev pub CountsFile : Result FileFields FileStop → ℕ → ℕ → Type 0
-CountsFile (Ok file) before now = now ≡ before
+abbrev pub CountsFile : {T : Type 0} → Result T FileStop → ℕ → ℕ → Type 0
+CountsFile (Ok read) before now = now ≡ before
 CountsFile (Err stop) before now = CountsFileStop stop before now

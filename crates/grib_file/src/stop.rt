@@ -1,6 +1,12 @@
 //! Why no file is read.
 
+ghost use Rattle.std.specs.Prelude.{◌≡◌};
+ghost use Rattle.grib_file.specs.Stops.{stop_of_shelf};
+ghost use Rattle.grib_file.specs.declared.stop.FileStop.TheVariants.{Memory};
+
+use grib_io::ShelfStop;
 use grib_stream::FileRefusal;
+use std::alloc::AllocError;
 use thiserror::Error;
 
 /// Why no file is read.
@@ -15,4 +21,23 @@ pub enum FileStop {
     /// There is no memory.
     #[error("out of memory")]
     Memory,
+}
+
+impl From<AllocError> for FileStop {
+    ghost from_gives = { λ _ stop. stop ≡ Memory };
+
+    fn from(_error: AllocError) -> FileStop {
+        FileStop::Memory
+    }
+}
+
+impl From<ShelfStop> for FileStop {
+    ghost from_gives = { λ shelf stop. stop ≡ stop_of_shelf shelf };
+
+    fn from(stop: ShelfStop) -> FileStop {
+        match stop {
+            ShelfStop::Absent => FileStop::Refused(FileRefusal::Absent),
+            ShelfStop::Failed => FileStop::ShelfFault,
+        }
+    }
 }
