@@ -1,5 +1,5 @@
 -- Where the fields of a file stand in its octets.
-use Rattle.std.specs.Prelude.{◌≡◌, ℕ, ◌+◌, ◌≤◌, List, map, length, take, drop}
+use Rattle.std.specs.Prelude.{ℕ, ◌+◌, ◌≤◌, List, map, length, take, drop}
 use Rattle.std.specs.List.{range_with_len}
 use Rattle.grib_base.specs.declared.profile.Profile.{Profile}
 use Rattle.grib_file.specs.Filed.{FieldOf, field_of}

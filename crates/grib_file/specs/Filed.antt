@@ -1,5 +1,5 @@
 -- A file as the fields of its messages, one after another.
-use Rattle.std.specs.Prelude.{ℕ, ◌+◌, List, map, flat_map, length, Option, Some, None}
+use Rattle.std.specs.Prelude.{ℕ, List, map, flat_map, length, Option, Some, None}
 use Rattle.std.specs.List.{range_with_len}
 use Rattle.grib_base.specs.declared.profile.Profile.{Profile}
 use Rattle.grib_stream.specs.declared.outcome.FileRefusal.{FileRefusal}

@@ -1,7 +1,6 @@
 -- What was found in the octets of a file, for private functions.
 use Rattle.std.specs.Prelude.{◌≡◌, ℕ, ◌+◌, ◌-◌, ◌≤◌, true, List, ◌++◌, flat_map, length, take, drop, Some, All}
 use Rattle.grib_base.specs.declared.profile.Profile.{Profile}
-use Rattle.grib_stream.specs.declared.outcome.FileRefusal.{FileRefusal}
 use Rattle.grib_stream.specs.declared.outcome.FileRefusal.TheVariants as refusals
 use Rattle.grib_stream.specs.Answer.{refusal_after}
 use Rattle.grib_stream.specs.Searching.{Markless}

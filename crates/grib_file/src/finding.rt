@@ -70,12 +70,7 @@ fn next_mark(octets: &[u8], place: usize) -> Option<usize>
 }
 
 /// The message that these octets begin with, which begin with `GRIB`, behind this many others.
-fn span_of(
-    alloc: Global,
-    profile: Profile,
-    octets: &[u8],
-    messages: u64,
-) -> Result<Span, FileStop>
+fn span_of(alloc: Global, profile: Profile, octets: &[u8], messages: u64) -> Result<Span, FileStop>
     requires begun { begins octets.now ≡ true }
     requires few { messages < 2 ^ 63 }
     ensures { MatchResult result (IsSpan profile octets.now) (IsStopAt profile octets.now messages) }

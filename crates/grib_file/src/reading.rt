@@ -1,9 +1,9 @@
 //! The octets under a name are read, and read as a file.
 
-ghost use Rattle.std.specs.Prelude.{◌≡◌, ◌+◌, ◌<◌, ◌≤◌, MatchResult, OnErr, OnOk, Some, length, take, vec_len};
+ghost use Rattle.std.specs.Prelude.{◌≡◌, ◌<◌, ◌≤◌, MatchResult, OnErr, OnOk, Some, length, take, vec_len};
 ghost use Rattle.grib_io.specs.Shelves.{Stays};
 ghost use Rattle.grib_table.specs.Fronts.{MoreRead, Tells};
-ghost use Rattle.grib_file.specs.Fronts.{NoneRead};
+ghost use Rattle.grib_file.specs.Fronts.{NoneRead, ReadOn};
 ghost use Rattle.grib_file.specs.Read.{CountsFile, ReadsFile};
 
 use crate::file::GribFile;
@@ -46,17 +46,38 @@ fn read_octets<H: Shelf>(alloc: Global, name: &str, shelf: &mut H) -> Result<Vec
     let mut octets = vec![in alloc; 0u8; READ]?;
     let mut filled = 0;
     loop {
-        match read_more(name, octets.as_mut_slice(), filled, shelf) {
-            Ok(0) => break,
+        match read_on(name, &mut octets, filled, shelf) {
+            Ok(0) => {
+                octets.truncate(filled);
+                return Ok(octets);
+            }
             Ok(count) => filled += count,
             Err(stop) => return Err(stop),
         }
-        if filled == octets.len() {
-            enlarge(&mut octets)?;
-        }
     }
-    octets.truncate(filled);
-    Ok(octets)
+}
+
+/// Reads octets under this name after the first `filled`, behind as many of `octets`, in which room is made where
+/// there is none.
+fn read_on<H: Shelf>(
+    name: &str,
+    octets: &mut Vec<u8>,
+    filled: usize,
+    shelf: &mut H,
+) -> Result<usize, FileStop>
+    requires within { filled ≤ vec_len octets.old }
+    requires some { 0 < vec_len octets.old }
+    ensures room { 0 < vec_len octets.new }
+    ensures read { MatchResult result
+        (ReadOn (H.contents shelf.old) name.now filled octets.old.items octets.new.items)
+        (NoneRead (H.contents shelf.old) name.now) }
+    ensures kept { Stays (H.contents shelf.old) (H.contents shelf.new) }
+    ensures counted { CountsFile result (H.faults shelf.old) (H.faults shelf.new) }
+{
+    if filled == octets.len() {
+        enlarge(octets)?;
+    }
+    read_more(name, octets.as_mut_slice(), filled, shelf)
 }
 
 /// Doubles the room.
@@ -64,6 +85,7 @@ fn enlarge(octets: &mut Vec<u8>) -> Result<(), AllocError>
     requires { 0 < vec_len octets.old }
     ensures front { OnOk result (take (vec_len octets.old) octets.new.items ≡ octets.old.items) }
     ensures room { OnOk result (vec_len octets.old < vec_len octets.new) }
+    ensures stays { vec_len octets.old ≤ vec_len octets.new }
 {
     let size = octets.len().saturating_mul(2);
     octets.resize(size, 0)

@@ -13,7 +13,7 @@ use thiserror::Error;
 #[derive(Clone, Copy, Debug, PartialEq, Eq, Error)]
 pub enum FileStop {
     /// The name is absent, or a message of what stands under it is refused.
-    #[error("{0}")]
+    #[error("file refused")]
     Refused(FileRefusal),
     /// The shelf failed.
     #[error("shelf fault")]

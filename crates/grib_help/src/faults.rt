@@ -261,6 +261,7 @@ fn knows_policy(command: Command, name: &str) -> bool
         Command::Check | Command::List | Command::Keys | Command::Stats => {
             matches!(name, "refused" | "profile")
         }
+        Command::Compare => name == "profile",
         _ => matches!(name, "refused" | "kept" | "profile"),
     }
 }
