@@ -1,5 +1,5 @@
 -- A run beside a file that was read before any input, or that was not read.
-use Rattle.std.proofs.Common.{◌≡◌, ℕ, Bool, true, false, IfSome, Option, Ok, Err, List, refl, sym, subst}
+use Rattle.std.proofs.Common.{◌≡◌, ℕ, Bool, IfSome, Option, Err, List, refl, sym, subst}
 use Rattle.std.proofs.lemmas.Bool.{false≢true}
 use Rattle.grib_base.specs.declared.profile.Profile.{Profile}
 use Rattle.grib_io.specs.Shelves.{Held, Stays}

@@ -1,5 +1,5 @@
 -- What is written of an input that is cut at the end of one of its messages.
-use Rattle.std.proofs.Common.{◌≡◌, ℕ, ◌^◌, ◌≤◌, Bool, true, Option, None, List, ◌++◌, length, sym, ap, ◌∙◌, arith, length-append}
+use Rattle.std.proofs.Common.{◌≡◌, ℕ, ◌^◌, ◌≤◌, true, Option, None, List, ◌++◌, length, sym, ap, ◌∙◌, arith, length-append}
 use Rattle.std.proofs.lemmas.Bool.{false≢true}
 use Rattle.grib_base.specs.declared.profile.Profile.{Profile}
 use Rattle.grib_reasons.specs.declared.cause.Cause.{Cause}

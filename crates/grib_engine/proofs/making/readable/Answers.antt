@@ -1,4 +1,4 @@
-use Rattle.std.proofs.Common.{◌≡◌, Some, None}
+use Rattle.std.proofs.Common.{◌≡◌, None}
 use Rattle.grib2_message.specs.Message.{first_opaque}
 use Rattle.grib_engine.proofs.making.readable.Goals as goal
 

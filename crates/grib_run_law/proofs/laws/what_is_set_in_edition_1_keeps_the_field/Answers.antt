@@ -1,4 +1,4 @@
-use Rattle.std.proofs.Common.{◌≡◌, ◌≢◌, All, IsTrue, List, [], ◌∷◌, ◌++◌, ◌∙◌, None, refl, sym, ap, subst}
+use Rattle.std.proofs.Common.{◌≡◌, All, IsTrue, List, [], ◌∙◌, refl, sym, ap, subst}
 use Rattle.grib1_sections.specs.Keys.{can_set1, number1_of}
 use Rattle.grib1_select.specs.declared.condition.Change1.{Change1}
 use Rattle.grib1_select.specs.Changed.{with_keys1, set_fault1}
