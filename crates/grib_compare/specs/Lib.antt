@@ -1,2 +1,4 @@
 pub mod Fields
 pub mod Command
+pub mod Seen
+pub mod Lawful

@@ -1,0 +1,13 @@
+//! `compare`: the fields of an input beside the fields of a file.
+#![tactic(auto)]
+
+mod comparing;
+mod comparison;
+mod lines;
+mod octets;
+mod points;
+mod readable;
+mod stop;
+
+pub use comparing::Comparing;
+pub use comparison::Comparison;
