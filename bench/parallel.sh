@@ -2,8 +2,8 @@
 # Compares grib-parallel with one run of the program: the same octets, note and status, on gfs.grb of Debian's
 # python-grib-doc ten times over, on damaged and mixed input, where a device fails, and with names that a shell or GNU
 # parallel would read as something else. What it starts ends with it, and its folder goes, whatever signal comes. Then
-# the time of one run over that of four jobs; that one asks for four free processors, and is left out where a second
-# word is given.
+# the time of one run over that of four jobs, and how many megabytes a second a host does by ssh; these ask for four free
+# processors, and are left out where a second word is given.
 #
 #     bench/parallel.sh PROGRAM [WITHOUT TIMES]
 #
@@ -286,10 +286,15 @@ for _ in 1 2 3; do
   elapsed four >>"$work/four.times"
 done
 if [[ -n $server ]]; then
-  by_host() { GRIB_HOSTS=$by_ssh "$top/grib-parallel" 2 set centre=98 <"$ten"; }
-  for _ in 1 2 3; do elapsed by_host >>"$work/host.times"; done
-  awk -v octets="$(wc -c <"$ten")" -v seconds="$(least "$work/host.times")" \
-    'BEGIN { printf "set of ten times gfs.grb by ssh on this machine, two jobs: %.1f MB/s\n", octets / seconds / 1e6 }'
+  for _ in 1 2 3 4 5 6 7 8 9 10; do cat "$ten"; done >"$work/hundred"
+  by_host() { GRIB_HOSTS=$by_ssh "$top/grib-parallel" "$at_once" set centre=98 <"$input"; }
+  for input in "$ten" "$work/hundred"; do
+    for at_once in 1 4; do
+      for _ in 1 2 3; do elapsed by_host; done >"$work/host.times"
+      awk -v octets="$(wc -c <"$input")" -v seconds="$(least "$work/host.times")" -v jobs="$at_once" -v processors="$(nproc)" \
+        'BEGIN { printf "set of %.0f MB by ssh on this machine, %d processors, %d jobs at most: %.1f MB/s a host\n", octets / 1e6, processors, jobs, octets / seconds / 1e6 }'
+    done
+  done
 fi
 awk -v one="$(least "$work/one.times")" -v four="$(least "$work/four.times")" \
   'BEGIN { printf "repack of ten times gfs.grb, four jobs: %.2f times as fast as one run\n", one / four }'
