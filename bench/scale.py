@@ -74,14 +74,14 @@ def main():
         old = subprocess.run([program, "demote", TABLE, "earth=any", "tables=any", "kept=pass"], input=octets, capture_output=True, check=False).stdout
         paths = {"edition 2": f"{folder}/2", "edition 1": f"{folder}/1"}
         read = {"edition 2": repeated(octets, sizes["MEGABYTES"], paths["edition 2"]), "edition 1": repeated(old, sizes["MEGABYTES"], paths["edition 1"])}
-        print("| command | processor s/GB | out of 100 octets | processor hours | hours by processors | by disks | by nets | limit: own disk, server |")
+        print("| command | MB/s a processor | out of 100 octets | processor hours | hours by processors | by disks | by nets | limit: own disk, server |")
         print("|---|---|---|---|---|---|---|---|")
         for name, edition, words in COMMANDS:
             seconds = run(program, words, paths[edition], f"{folder}/out")
             written = os.path.getsize(f"{folder}/out")
             hours, busy, disk, net = cost(sizes, seconds, read[edition], written)
             limits = [("processor" if busy >= other else what) for what, other in (("disk", disk), ("net", net))]
-            print(f"| `{name}` | {seconds * 10**9 / read[edition]:.2f} | {100 * written / read[edition]:.1f} | {hours:,.0f} | {busy:.2f} | {disk:.2f} | {net:.2f} | {', '.join(limits)} |", flush=True)
+            print(f"| `{name}` | {read[edition] / seconds / 10**6:.{1 if seconds * 10**8 > read[edition] else 0}f} | {100 * written / read[edition]:.1f} | {hours:,.0f} | {busy:.2f} | {disk:.2f} | {net:.2f} | {', '.join(limits)} |", flush=True)
 
 
 if __name__ == "__main__":
