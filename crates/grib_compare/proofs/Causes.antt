@@ -3,11 +3,11 @@ use Rattle.std.proofs.Common.{◌≡◌, ℕ, Bool, Option, Some, None, List, Ok
 use Rattle.std.specs.Result.{IsErrAnd}
 use Rattle.std.specs.declared.result.Result.{Result}
 use Rattle.grib2_sections.specs.Head.{edition}
-use Rattle.grib2_message.specs.Message.{IsFirstOpaque, first_opaque}
+use Rattle.grib2_message.specs.Message.{IsFirstOpaque}
 use Rattle.grib2_message.specs.declared.readable.OpaqueField.{OpaqueField}
 use Rattle.grib_stream.specs.declared.place.Place.{Place}
 use Rattle.grib_stream.specs.Acts.{writes}
-use Rattle.grib_stream.specs.Task.{Given, Gives, Ends}
+use Rattle.grib_stream.specs.Task.{Gives, Ends}
 use Rattle.grib_reasons.specs.declared.cause.Cause.{Cause}
 use Rattle.grib_reasons.specs.declared.cause.Cause.TheVariants.{Packing}
 use Rattle.grib_command.specs.Command.{kept_at}

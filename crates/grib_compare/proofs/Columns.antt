@@ -4,15 +4,12 @@ use Rattle.grib_base.specs.Rows.{choose}
 use Rattle.grib_bits.specs.Bits.{bits_of, signed}
 use Rattle.grib_dyadic.specs.Reference.{Binary, SameNumber, ieee, ibm}
 use Rattle.grib_dyadic.specs.Meaning.{Meant, SameMeaning}
-use Rattle.grib_packing.specs.declared.column.Point.{Point}
 use Rattle.grib_packing.specs.declared.column.Column.{Column}
 use Rattle.grib1_sections.specs.Column as first
 use Rattle.grib2_message.specs.Fields as second
-use Rattle.grib_same.specs.declared.scale.ValueScale.{ValueScale}
 use Rattle.grib_same.specs.Sameness.{first_difference, meant}
-use Rattle.grib_same.specs.Scales.{meant_by}
 use Rattle.grib_compare.specs.declared.comparison.Comparison.{Comparison}
-use Rattle.grib_compare.specs.declared.comparison.Comparison.TheVariants.{Same, Shape, Differs, Section}
+use Rattle.grib_compare.specs.declared.comparison.Comparison.TheVariants.{Same, Shape, Differs}
 use Rattle.grib_compare.specs.declared.points.FieldPoints.{FieldPoints}
 use Rattle.grib_compare.specs.Fields.{by_points, on_point}
 use Rattle.grib_compare.specs.Seen.{points_mean}

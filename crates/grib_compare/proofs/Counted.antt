@@ -1,5 +1,5 @@
 -- The lines of a message and the count of its fields that differ, one field after another.
-use Rattle.std.proofs.Common.{◌≡◌, ℕ, zero, suc, ◌+◌, ◌<◌, ◌≤◌, Option, Some, None, List, ◌++◌, refl, sym, ap, ◌∙◌, arith}
+use Rattle.std.proofs.Common.{◌≡◌, ℕ, zero, suc, ◌+◌, ◌<◌, Option, Some, None, List, ◌++◌, refl, sym, ap, ◌∙◌, arith}
 use Rattle.grib_reasons.specs.declared.cause.Cause.{Cause}
 use Rattle.grib_command.specs.Command.{texts_from}
 use Rattle.grib_command.proofs.Passing.{texts_more}

@@ -1,8 +1,7 @@
 -- Points that mean the same are the same beside others.
-use Rattle.std.proofs.Common.{◌≡◌, ℕ, suc, ◌+◌, ◌==◌, Bool, cond, Option, Some, List, [], ◌∷◌, length, map, ℤ, refl, sym, ap, ◌∙◌, subst}
-use Rattle.grib_base.specs.Rows.{choose}
+use Rattle.std.proofs.Common.{◌≡◌, ℕ, suc, ◌+◌, cond, Some, List, [], ◌∷◌, length, map, ℤ, refl, sym, ap, ◌∙◌, subst}
 use Rattle.grib_dyadic.specs.Reference.{Binary, SameNumber}
-use Rattle.grib_dyadic.specs.Value.{Same, value_of}
+use Rattle.grib_dyadic.specs.Value.{value_of}
 use Rattle.grib_dyadic.specs.Meaning.{Meant, valued, missing, missing2, SamePoint, SameMeaning}
 use Rattle.grib_dyadic.proofs.Values.{Same_sym, Same_trans, value_of-same}
 use Rattle.grib_packing.specs.declared.column.Point.{Point}

@@ -1,9 +1,8 @@
 -- The first octet in which two sections differ.
-use Rattle.std.proofs.Common.{◌≡◌, ℕ, zero, suc, ◌+◌, ◌-◌, ◌<◌, ◌≤◌, ◌==◌, ◌≢◌, ◌⊎◌, inl, inr, min, Bool, true, false, cond, Option, Some, None, List, [], ◌∷◌, length, get_or, drop, refl, sym, ap, ◌∙◌, subst, arith}
+use Rattle.std.proofs.Common.{◌≡◌, ℕ, suc, ◌+◌, ◌-◌, ◌<◌, ◌≤◌, ◌==◌, ◌≢◌, inl, inr, min, true, false, cond, Option, Some, None, List, [], ◌∷◌, length, get_or, drop, refl, sym, ap, ◌∙◌, arith}
 use Rattle.std.proofs.lemmas.List.{drop_more, drop_all}
 use Rattle.std.proofs.lemmas.Bool.{cases_lt}
 use Rattle.grib_file.specs.Filed.{FieldOf}
-use Rattle.grib_compare.specs.declared.comparison.Comparison.{Comparison}
 use Rattle.grib_compare.specs.declared.comparison.Comparison.TheVariants.{Same, Section}
 use Rattle.grib_compare.specs.Fields.{octet_from, on_octet, by_sections_from, section_of}
 

@@ -1,5 +1,5 @@
 -- The command is lawful: of each message as many fields differ at most as it has octets.
-use Rattle.std.proofs.Common.{◌≡◌, ℕ, zero, suc, ◌+◌, ◌*◌, ◌≤◌, ◌==◌, Bool, true, false, Option, Some, None, List, [], ◌∷◌, length, count_by, take, sym, ap, ⊎_elim, arith}
+use Rattle.std.proofs.Common.{◌≡◌, ℕ, zero, suc, ◌+◌, ◌*◌, ◌≤◌, ◌==◌, Bool, true, false, Option, Some, None, List, [], ◌∷◌, length, take, sym, ap, ⊎_elim, arith}
 use Rattle.std.proofs.lemmas.Bool.{cases_Bool}
 use Rattle.std.proofs.lemmas.List.Sums.{count_by-le-length}
 use Rattle.grib_base.specs.Rows.{choose}
@@ -13,13 +13,12 @@ use Rattle.grib_stream.specs.declared.outcome.Outcome.{Outcome}
 use Rattle.grib_reasons.specs.declared.cause.Cause.{Cause}
 use Rattle.grib_stream.specs.Acts.{Act}
 use Rattle.grib_stream.specs.Outcomes.{is_of_message}
-use Rattle.grib_stream.specs.Task.{Given, Gives, Ends}
+use Rattle.grib_stream.specs.Task.{Gives, Ends}
 use Rattle.grib_command.specs.Command.{IsLawfulCommand, kept_at}
 use Rattle.grib_command.specs.Judging.{fields_of}
 use Rattle.grib_file.specs.Filed.{FieldOf}
 use Rattle.grib_compare.specs.declared.comparison.Comparison.{Comparison}
 use Rattle.grib_compare.specs.declared.comparison.Comparison.TheVariants.{Same, Shape, Differs, Section}
-use Rattle.grib_compare.specs.Fields.{differing}
 use Rattle.grib_compare.specs.Command.{compare_command, compare_cause, compare_text, compare_count, differing_beside, differing_from, field_compared, given_unless, beside}
 
 -- fields are fewer than octets

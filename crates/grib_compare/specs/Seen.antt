@@ -6,7 +6,6 @@ use Rattle.grib2_message.specs.declared.readable.OpaqueField.{OpaqueField}
 use Rattle.grib_dyadic.specs.Meaning.{Meant}
 use Rattle.grib_stream.specs.declared.place.Place.{Place}
 use Rattle.grib_reasons.specs.declared.cause.Cause.{Cause}
-use Rattle.grib_command.specs.Judging.{fields_of}
 use Rattle.grib_same.specs.Scales.{meant_by}
 use Rattle.grib_file.specs.Filed.{FieldOf, field_of}
 use Rattle.grib_compare.specs.declared.readable.Readable.{Readable}

@@ -1,6 +1,6 @@
 //! A field of a file.
 
-ghost use Rattle.std.specs.Prelude.{◌≡◌, ◌≤◌, ℕ, true, length, IfOk};
+ghost use Rattle.std.specs.Prelude.{◌≡◌, ◌≤◌, true, IfOk};
 ghost use Rattle.grib_base.specs.declared.profile.Profile.{Profile};
 ghost use Rattle.grib_stream.specs.Stream.{begins};
 ghost use Rattle.grib_command.specs.Judging.{fields_of};

@@ -1,6 +1,6 @@
 //! The octets under a name are read, and read as a file.
 
-ghost use Rattle.std.specs.Prelude.{◌≡◌, ◌<◌, ◌≤◌, MatchResult, OnErr, OnOk, Some, length, take, vec_len};
+ghost use Rattle.std.specs.Prelude.{◌≡◌, ◌<◌, ◌≤◌, MatchResult, OnOk, Some, length, take, vec_len};
 ghost use Rattle.grib_io.specs.Shelves.{Stays};
 ghost use Rattle.grib_table.specs.Fronts.{MoreRead, Tells};
 ghost use Rattle.grib_file.specs.Fronts.{NoneRead, ReadOn};

@@ -1,4 +1,4 @@
-use Rattle.std.proofs.Common.{◌≡◌, None, sym, ap, ◌∙◌, subst}
+use Rattle.std.proofs.Common.{◌≡◌, None, ap, ◌∙◌, subst}
 use Rattle.grib_file.specs.Filed.{field_of}
 use Rattle.grib_compare.specs.Command.{opaque_cause, packing_of}
 use Rattle.grib_compare.specs.Fields.{compared}

@@ -1,4 +1,4 @@
-use Rattle.std.proofs.Common.{◌≡◌, sym, ◌∙◌, ap, subst, ◌+◌, Some, min, length, arith}
+use Rattle.std.proofs.Common.{◌≡◌, sym, ◌∙◌, ap, ◌+◌, Some, arith}
 use Rattle.grib_compare.proofs.Sections.{octets_end}
 use Rattle.grib_compare.proofs.octets.first_octet.Goals as goal
 

@@ -1,4 +1,4 @@
-use Rattle.std.proofs.Common.{◌≡◌, cond, sym, ap, ◌∙◌}
+use Rattle.std.proofs.Common.{cond, sym, ap, ◌∙◌}
 use Rattle.grib_compare.specs.declared.comparison.Comparison.TheVariants.{Same}
 use Rattle.grib_compare.specs.Fields.{meanings, by_points, by_sections}
 use Rattle.grib_compare.specs.Seen.{readable_field}

@@ -1,4 +1,4 @@
-use Rattle.std.proofs.Common.{◌≡◌, ◌+◌, ◌<◌, sym, ap, ◌∙◌, arith}
+use Rattle.std.proofs.Common.{◌≡◌, ◌+◌, sym, ap, ◌∙◌, arith}
 use Rattle.grib_compare.specs.Fields.{octet_from, section_of}
 use Rattle.grib_compare.specs.Seen.{readable_field}
 use Rattle.grib_compare.proofs.Sections.{section_same, section_found, sections_none, none_else}
