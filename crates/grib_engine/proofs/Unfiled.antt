@@ -39,9 +39,12 @@ module _ (policy : Policy) (before : Seen) (names : Option Held) (faults : ℕ) 
       → IfAsked (ReadsFile profile name commands) before.names (Answers policy (outcome_unfiled stop) (note_of (outcome_unfiled stop)) before same)
       (States (outcome_unfiled stop) (note_of (outcome_unfiled stop)) before same)
   asked profile name commands (stops.Refused refusal) (text, stood, is) =
-      let own = outcomes.FileRefused refusal in
-      (text, stood, subst (IfFiled commands (Answers policy own (note_of own) before same) (States own (note_of own) before same)) (sym is)
-      (at_once policy before names faults stays own refl, λ e. cc))
+      let own = outcomes.FileRefused refusal in (
+        text,
+        stood,
+        subst (IfFiled commands (Answers policy own (note_of own) before same) (States own (note_of own) before same)) (sym is)
+            (at_once policy before names faults stays own refl, λ e. cc),
+      )
   asked profile name commands stops.ShelfFault read = broken_asked policy before names faults stays ShelfFault refl (λ e. cc) (ReadsFile profile name commands)
   asked profile name commands stops.Memory read = broken_asked policy before names faults stays Memory refl (λ e. cc) (ReadsFile profile name commands)
 
