@@ -1,5 +1,5 @@
 -- What is read of messages to compare their fields.
-use Rattle.std.specs.Prelude.{◌≡◌, ℕ, Bool, Option, Some, None, List, map}
+use Rattle.std.specs.Prelude.{◌≡◌, ℕ, Bool, Option, Some, None, IsSomeAnd, List, map, slice_get}
 use Rattle.grib2_sections.specs.Head.{edition}
 use Rattle.grib2_message.specs.Message.{IsFirstOpaque}
 use Rattle.grib2_message.specs.declared.readable.OpaqueField.{OpaqueField}
@@ -11,6 +11,8 @@ use Rattle.grib_file.specs.Filed.{FieldOf, field_of}
 use Rattle.grib_compare.specs.declared.readable.Readable.{Readable}
 use Rattle.grib_compare.specs.declared.readable.Readable.TheVariants.{One, Two}
 use Rattle.grib_compare.specs.declared.points.FieldPoints.{FieldPoints}
+use Rattle.grib_dispatch.specs.Reading.{held_octets}
+use Rattle.grib_compare.specs.declared.file_message.FileMessage.{FileMessage}
 use Rattle.grib_compare.specs.declared.lines.Lines.{Lines}
 use Rattle.grib_compare.specs.declared.stop.CompareStop.{CompareStop}
 use Rattle.grib_compare.specs.declared.stop.CompareStop.TheVariants.{Kept, Memory}
@@ -33,6 +35,10 @@ IsClear message = (cause : ℕ → Cause) → opaque_cause message cause ≡ Non
 pub record IsOpaque (message : List ℕ) (opaque : OpaqueField) : Type 0 where
   pub edition_stands : edition message ≡ 2
   pub first : IsFirstOpaque message opaque
+
+-- a message that was read is that of a field of the file
+abbrev pub IsOfField : List FieldOf → FileMessage → Type 0
+IsOfField fields read = IsSomeAnd (slice_get fields read.index) (λ field. held_octets read.held ≡ field.message)
 
 -- what the points of a field mean, by its numbers
 abbrev pub points_mean : FieldPoints → List Meant

@@ -1,13 +1,15 @@
 //! `compare`: for each field of the input that has a counterpart in a file, a line.
 
-ghost use Rattle.std.specs.Prelude.{◌≡◌, ◌≤◌, None, Some, MatchResult};
+ghost use Rattle.std.specs.Prelude.{◌≡◌, ◌≤◌, None, Some, IfSome, MatchOption, MatchResult, slice_get};
 ghost use Rattle.grib_command.specs.Answering.{AnswersByOutput};
 ghost use Rattle.grib_command.specs.Judging.{fields_of};
+ghost use Rattle.grib_dispatch.specs.Reading.{held_octets};
 ghost use Rattle.grib_compare.specs.Command as commands;
 ghost use Rattle.grib_compare.specs.Fields.{compared};
-ghost use Rattle.grib_compare.specs.Seen.{readable_octets, readable_field, IsClear, StopsBy, AreLines};
+ghost use Rattle.grib_compare.specs.Seen.{readable_octets, readable_field, IsClear, IsOfField, StopsBy, AreLines};
 
 use crate::comparison::Comparison;
+use crate::file_message::FileMessage;
 use crate::lines::Lines;
 use crate::readable::Readable;
 use crate::stop::CompareStop;
@@ -127,71 +129,84 @@ impl Comparing<'_> {
             (StopsBy (commands.counterpart_cause self.now.file.now.fields place.now (readable_octets message.now))) }
     {
         let mut lines = Lines::new(alloc);
+        let mut last = None;
         for index in 0..message.fields() {
             let field = index + 1;
-            let comparison = self.compare(alloc, place, message, field)?;
+            let comparison = self.compare(alloc, place, message, field, &mut last)?;
             lines.append(alloc, self.quiet, place.message, field, comparison)?;
         }
         Ok(lines)
     }
 
-    /// What is said of a field, counted from 1, of a message at this place, if it has a counterpart.
+    /// What is said of a field, counted from 1, of a message at this place, if it has a counterpart. The message of the
+    /// counterpart is read, unless it was read `last`.
     ///
     /// # Errors
     ///
     /// The values of the counterpart cannot be read, or there is no memory.
-    fn compare(
-        &self,
+    fn compare<'f>(
+        &'f self,
         alloc: Global,
         place: &Place,
         message: &Readable<'_>,
         field: u32,
+        last: &mut Option<FileMessage<'f>>,
     ) -> Result<Option<Comparison>, CompareStop>
         requires first { 1 ≤ field }
         requires last { field ≤ fields_of (readable_octets message.now) }
-        ensures { let other = commands.counterpart self.now.file.now.fields place.now field in MatchResult result
+        requires stands { IfSome last.old (IsOfField self.now.file.now.fields) }
+        ensures stands { IfSome last.new (IsOfField self.now.file.now.fields) }
+        ensures compared { let other = commands.counterpart self.now.file.now.fields place.now field in MatchResult result
             (λ comparison. (commands.on_counterpart other field ≡ None)
             × (comparison ≡ commands.field_compared self.now.sections self.now.file.now.fields place.now (readable_octets message.now) field))
             (StopsBy (commands.on_counterpart other field)) }
     {
-        let Some(other) = self.counterpart(place, field) else {
+        let Some(index) = self.counterpart(place, field) else {
             return Ok(None);
         };
-        let comparison = compare_with(alloc, message, field, &other, self.sections)?;
+        let Some(other) = self.file.field(index) else {
+            return Ok(None);
+        };
+        let read = FileMessage::of(alloc, self.file, index, &other, last.take())?;
+        let comparison = compare_with(alloc, message, field, &read, &other, self.sections)?;
+        *last = Some(read);
         Ok(Some(comparison))
     }
 
-    /// The field of the file beside a field, counted from 1, of a message at this place.
-    fn counterpart(&self, place: &Place, field: u32) -> Option<FileField<'_>>
+    /// The index of the field of the file beside a field, counted from 1, of a message at this place.
+    fn counterpart(&self, place: &Place, field: u32) -> Option<u64>
         requires first { 1 ≤ field }
-        ensures { result ≡ commands.counterpart self.now.file.now.fields place.now field }
+        ensures { MatchOption result
+            (commands.counterpart self.now.file.now.fields place.now field ≡ None)
+            (λ index. slice_get self.now.file.now.fields index ≡ commands.counterpart self.now.file.now.fields place.now field) }
     {
         let index = u64::from(field) - 1;
         let behind = self.file.count().saturating_sub(place.fields);
         if index >= behind {
             return None;
         }
-        self.file.field(place.fields + index)
+        Some(place.fields + index)
     }
 }
 
-/// What is said of a field, counted from 1, of a message and of a field of a file.
+/// What is said of a field, counted from 1, of a message and of a field of a file, whose message was read.
 fn compare_with(
     alloc: Global,
     message: &Readable<'_>,
     field: u32,
+    read: &FileMessage<'_>,
     other: &FileField<'_>,
     sections: bool,
 ) -> Result<Comparison, CompareStop>
     requires first { 1 ≤ field }
     requires last { field ≤ fields_of (readable_octets message.now) }
+    requires octets { held_octets read.now.held ≡ other.now.message }
     ensures { MatchResult result
         (λ comparison. (commands.on_counterpart (Some other.now) field ≡ None)
         × (comparison ≡ compared sections (readable_field message.now field) other.now))
         (StopsBy (commands.on_counterpart (Some other.now) field)) }
 {
-    let held = other.read(alloc)?;
-    match Readable::of(&held) {
+    match Readable::of(&read.held) {
         Ok(readable) => {
             let comparison = message.compare(alloc, field, &readable, other.number(), sections)?;
             Ok(comparison)

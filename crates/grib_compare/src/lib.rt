@@ -3,6 +3,7 @@
 
 mod comparing;
 mod comparison;
+mod file_message;
 mod lines;
 mod octets;
 mod points;

@@ -18,7 +18,7 @@ use Rattle.grib_stream.specs.Stream.{begins, Judgement, Message, Faulty, Found, 
 use Rattle.grib_stream.proofs.Streams.{none_in_few, stream_passed, stream_message, stream_refused}
 use Rattle.grib_command.specs.Judging.{judge_under, fields_of}
 use Rattle.grib_file.specs.Filed.{FieldOf, field_of, FileFields, Filed, Good, Refused, fields_in, filed_by, filed}
-use Rattle.grib_file.specs.Read.{IsFieldOf, StandsAs, ReadsFile}
+use Rattle.grib_file.specs.Read.{IsFieldOf, AreOfOneMessage, StandsAs, ReadsFile}
 use Rattle.grib_file.specs.Entries.{IsEntryOf, field_at, fields_at, entry_at, entries_in}
 use Rattle.grib_file.specs.Finding.{IsNext, IsSpan, IsStopAt, filed_behind_by, filed_behind, FoundSoFar, IsNoFile}
 use Rattle.grib_file.specs.declared.entries.Entry.{Entry}
@@ -192,11 +192,23 @@ pub cut_is_field : (profile : Profile) (octets bytes : List ℕ) (entries : List
 cut_is_field profile octets bytes entries i entry are low is same =
     subst (IsFieldOf profile) (sym (cut_out octets bytes entry same)) (entry_of profile octets entries i entry are low is).field
 
+got_of : (octets : List ℕ) (entries : List Entry) (i : ℕ) (entry : Entry) → i < length entries → entry ≡ get_or entries i entry → Some (field_at octets entry) ≡ slice_get (fields_at octets entries) i
+got_of octets entries i entry low is =
+    sym (slice_get-map (field_at octets) entries i ∙ ap (option_map (field_at octets)) (slice_get_read entries (length entries) i entry refl low is))
+
 pub cut_is_got : (octets bytes : List ℕ) (entries : List Entry) (i : ℕ) (entry : Entry) (field : FieldOf) → i < length entries → entry ≡ get_or entries i entry → bytes ≡ octets
     → field ≡ field_of (take (entry.start + entry.length - entry.start) (drop entry.start bytes)) entry.number → Some field ≡ slice_get (fields_at octets entries) i
 cut_is_got octets bytes entries i entry field low is same made =
-    ap Some (made ∙ cut_out octets bytes entry same)
-    ∙ sym (slice_get-map (field_at octets) entries i ∙ ap (option_map (field_at octets)) (slice_get_read entries (length entries) i entry refl low is))
+    ap Some (made ∙ cut_out octets bytes entry same) ∙ got_of octets entries i entry low is
+
+-- two fields that stand in the same place
+pub of_one_message : (octets : List ℕ) (entries : List Entry) (i j : ℕ) (here there : Entry) → i < length entries → j < length entries → here ≡ get_or entries i here → there ≡ get_or entries j there
+    → here.start ≡ there.start → here.length ≡ there.length → AreOfOneMessage (slice_get (fields_at octets entries) i) (slice_get (fields_at octets entries) j)
+of_one_message octets entries i j here there low low_there is is_there same_start same_length =
+    let same : take here.length (drop here.start octets) ≡ take there.length (drop there.start octets) =
+    ap (λ n. take n (drop here.start octets)) same_length ∙ ap (λ start. take there.length (drop start octets)) same_start in
+    subst (λ field. AreOfOneMessage field (slice_get (fields_at octets entries) j)) (got_of octets entries i here low is)
+    (subst (AreOfOneMessage (Some (field_at octets here))) (got_of octets entries j there low_there is_there) same)
 
 -- one field more of a message
 pub one_more : (old items now : List Entry) (start size index : ℕ) → items ≡ old ++ entries_in start size index → now ≡ items ++ entry_at start size (index + 1) ∷ []

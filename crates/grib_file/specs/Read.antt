@@ -1,5 +1,5 @@
 -- What was read of a file that stands on a shelf under a name.
-use Rattle.std.specs.Prelude.{◌≡◌, ℕ, ◌≤◌, List, Option, Result, Ok, Err, length, true}
+use Rattle.std.specs.Prelude.{◌≡◌, ℕ, ◌≤◌, List, Option, None, Some, Result, Ok, Err, length, true}
 use Rattle.grib_base.specs.declared.profile.Profile.{Profile}
 use Rattle.grib_io.specs.Outside.{Counted}
 use Rattle.grib_io.specs.Shelves.{Held}
@@ -16,6 +16,12 @@ pub record IsFieldOf (profile : Profile) (field : FieldOf) : Type 0 where
   pub accepted : judge_under profile field.message ≡ Message (length field.message)
   pub first : 1 ≤ field.number
   pub last : field.number ≤ fields_of field.message
+
+-- two fields of one message
+abbrev pub AreOfOneMessage : Option FieldOf → Option FieldOf → Type 0
+AreOfOneMessage None other = ⊥
+AreOfOneMessage (Some field) None = ⊥
+AreOfOneMessage (Some field) (Some other) = field.message ≡ other.message
 
 -- what stands under the name is this file; where the shelf does not tell it, some file is
 abbrev pub StandsAs : Profile → Option Held → List ℕ → Filed → Type 0

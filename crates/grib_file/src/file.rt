@@ -1,8 +1,8 @@
 //! A file whose messages are accepted.
 
-ghost use Rattle.std.specs.Prelude.{◌≡◌, All, IfSome, length, slice_get};
+ghost use Rattle.std.specs.Prelude.{◌≡◌, All, IfSome, IsTrue, length, slice_get};
 ghost use Rattle.grib_file.specs.Entries.{IsEntryOf, fields_at};
-ghost use Rattle.grib_file.specs.Read.{IsFieldOf};
+ghost use Rattle.grib_file.specs.Read.{AreOfOneMessage, IsFieldOf};
 
 use crate::entries::Entry;
 use crate::field::FileField;
@@ -64,5 +64,20 @@ impl GribFile {
         let entry = self.entries[index as usize];
         let message = &self.octets[entry.start..entry.start + entry.length];
         Some(FileField::of(self.profile, message, entry.number))
+    }
+
+    /// Whether the fields with these indices, which begin at 0, stand in one message. Where it says that they do not, nothing
+    /// is claimed.
+    pub fn are_of_one_message(&self, index: u64, other: u64) -> bool
+        ensures { IsTrue result
+            → AreOfOneMessage (slice_get self.now.fields index) (slice_get self.now.fields other) }
+    {
+        let count = self.entries.len() as u64;
+        if index >= count || other >= count {
+            return false;
+        }
+        let here = self.entries[index as usize];
+        let there = self.entries[other as usize];
+        here.start == there.start && here.length == there.length
     }
 }

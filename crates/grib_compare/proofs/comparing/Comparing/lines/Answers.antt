@@ -19,7 +19,7 @@ returns-in_err-comparison c =
     let m = readable_octets c.args.message.now in
     let cause : ℕ → Option Cause = λ i. on_counterpart (counterpart fields place i) i in
     let within : l.index < fields_of m = omega (arith, c.fields-index-end.ensures, c.loop-index-test.true) in
-    stopped_by c.from_residual.result _ _ _ c.from_residual.ensures.1 (stops_at cause (fields_of m) l.index _ within l.invariant.clear c.in_err-comparison.ensures)
+    stopped_by c.from_residual.result _ _ _ c.from_residual.ensures.1 (stops_at cause (fields_of m) l.index _ within l.invariant.clear c.in_err-comparison.ensures.compared)
 
 pub loop-index-preserved : goal.loop-index-preserved
 loop-index-preserved c =
@@ -36,13 +36,14 @@ loop-index-preserved c =
     record {
       clear = λ j within. elim (cases_lt j l.index) [
         | inl earlier ↦ l.invariant.clear j earlier
-        | inr now ↦ let e : 1 + j ≡ l.index + 1 = omega arith in ap cause e ∙ c.in_ok-comparison.ensures.0
+        | inr now ↦ let e : 1 + j ≡ l.index + 1 = omega arith in ap cause e ∙ c.in_ok-comparison.ensures.compared.0
       ];
       text = text_more line l.index l.lines.text.items (line_beside quiet place.message (l.index + 1) found) c.append.new.self.text.items l.invariant.text
-          (ap (line_beside quiet place.message (l.index + 1)) c.in_ok-comparison.ensures.1) c.in_ok-append.ensures.text;
-      count = count_more count l.index l.lines.differing (differing_beside found) c.append.new.self.differing l.invariant.count (ap differing_beside c.in_ok-comparison.ensures.1)
+          (ap (line_beside quiet place.message (l.index + 1)) c.in_ok-comparison.ensures.compared.1) c.in_ok-append.ensures.text;
+      count = count_more count l.index l.lines.differing (differing_beside found) c.append.new.self.differing l.invariant.count (ap differing_beside c.in_ok-comparison.ensures.compared.1)
           c.in_ok-append.ensures.count;
       few = omega (arith, differing_once found, c.in_ok-append.ensures.count, l.invariant.few);
+      stands = c.in_ok-comparison.ensures.stands;
     }
 
 pub returns : goal.returns
