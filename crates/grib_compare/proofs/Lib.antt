@@ -5,3 +5,4 @@ pub mod Sections
 pub mod Counted
 pub mod Causes
 pub mod Written
+pub mod Itself

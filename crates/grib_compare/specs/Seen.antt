@@ -1,5 +1,5 @@
 -- What is read of messages to compare their fields.
-use Rattle.std.specs.Prelude.{◌≡◌, ℕ, Bool, Option, Some, None, IsSomeAnd, List, map, slice_get}
+use Rattle.std.specs.Prelude.{◌≡◌, ℕ, Bool, Option, Some, None, IsSomeAnd, IsTrue, List, map, slice_get}
 use Rattle.grib2_sections.specs.Head.{edition}
 use Rattle.grib2_message.specs.Message.{IsFirstOpaque}
 use Rattle.grib2_message.specs.declared.readable.OpaqueField.{OpaqueField}
@@ -36,9 +36,10 @@ pub record IsOpaque (message : List ℕ) (opaque : OpaqueField) : Type 0 where
   pub edition_stands : edition message ≡ 2
   pub first : IsFirstOpaque message opaque
 
--- a message that was read is that of a field of the file
-abbrev pub IsOfField : List FieldOf → FileMessage → Type 0
-IsOfField fields read = IsSomeAnd (slice_get fields read.index) (λ field. held_octets read.held ≡ field.message)
+-- a message that was read is that of a field of the file, and has the same octets as the message beside it where that is said
+pub record IsOfField (fields : List FieldOf) (message : List ℕ) (read : FileMessage) : Type 0 where
+  pub stands : IsSomeAnd (slice_get fields read.index) (λ field. held_octets read.held ≡ field.message)
+  pub same : IsTrue read.is_same → message ≡ held_octets read.held
 
 -- what the points of a field mean, by its numbers
 abbrev pub points_mean : FieldPoints → List Meant

@@ -1,6 +1,6 @@
 //! `compare`: for each field of the input that has a counterpart in a file, a line.
 
-ghost use Rattle.std.specs.Prelude.{◌≡◌, ◌≤◌, None, Some, IfSome, MatchOption, MatchResult, slice_get};
+ghost use Rattle.std.specs.Prelude.{◌≡◌, ◌≤◌, None, Some, IfSome, IsTrue, MatchOption, MatchResult, slice_get};
 ghost use Rattle.grib_command.specs.Answering.{AnswersByOutput};
 ghost use Rattle.grib_command.specs.Judging.{fields_of};
 ghost use Rattle.grib_dispatch.specs.Reading.{held_octets};
@@ -124,6 +124,7 @@ impl Comparing<'_> {
         place: &Place,
         message: &Readable<'_>,
     ) -> Result<Lines, CompareStop>
+        requires { IsClear (readable_octets message.now) }
         ensures { MatchResult result
             (AreLines self.now.sections self.now.quiet self.now.file.now.fields place.now (readable_octets message.now))
             (StopsBy (commands.counterpart_cause self.now.file.now.fields place.now (readable_octets message.now))) }
@@ -154,8 +155,9 @@ impl Comparing<'_> {
     ) -> Result<Option<Comparison>, CompareStop>
         requires first { 1 ≤ field }
         requires last { field ≤ fields_of (readable_octets message.now) }
-        requires stands { IfSome last.old (IsOfField self.now.file.now.fields) }
-        ensures stands { IfSome last.new (IsOfField self.now.file.now.fields) }
+        requires clear { IsClear (readable_octets message.now) }
+        requires stands { IfSome last.old (IsOfField self.now.file.now.fields (readable_octets message.now)) }
+        ensures stands { IfSome last.new (IsOfField self.now.file.now.fields (readable_octets message.now)) }
         ensures compared { let other = commands.counterpart self.now.file.now.fields place.now field in MatchResult result
             (λ comparison. (commands.on_counterpart other field ≡ None)
             × (comparison ≡ commands.field_compared self.now.sections self.now.file.now.fields place.now (readable_octets message.now) field))
@@ -167,7 +169,8 @@ impl Comparing<'_> {
         let Some(other) = self.file.field(index) else {
             return Ok(None);
         };
-        let read = FileMessage::of(alloc, self.file, index, &other, last.take())?;
+        let octets = message.octets();
+        let read = FileMessage::of(alloc, self.file, index, &other, octets, last.take())?;
         let comparison = compare_with(alloc, message, field, &read, &other, self.sections)?;
         *last = Some(read);
         Ok(Some(comparison))
@@ -189,7 +192,8 @@ impl Comparing<'_> {
     }
 }
 
-/// What is said of a field, counted from 1, of a message and of a field of a file, whose message was read.
+/// What is said of a field, counted from 1, of a message and of a field of a file, whose message was read. Points are read
+/// only where the messages are not the same octets.
 fn compare_with(
     alloc: Global,
     message: &Readable<'_>,
@@ -200,15 +204,21 @@ fn compare_with(
 ) -> Result<Comparison, CompareStop>
     requires first { 1 ≤ field }
     requires last { field ≤ fields_of (readable_octets message.now) }
+    requires clear { IsClear (readable_octets message.now) }
     requires octets { held_octets read.now.held ≡ other.now.message }
+    requires same { IsTrue read.now.is_same → readable_octets message.now ≡ other.now.message }
     ensures { MatchResult result
         (λ comparison. (commands.on_counterpart (Some other.now) field ≡ None)
         × (comparison ≡ compared sections (readable_field message.now field) other.now))
         (StopsBy (commands.on_counterpart (Some other.now) field)) }
 {
+    let other_field = other.number();
+    if read.is_same && field == other_field {
+        return Ok(Comparison::Same);
+    }
     match Readable::of(&read.held) {
         Ok(readable) => {
-            let comparison = message.compare(alloc, field, &readable, other.number(), sections)?;
+            let comparison = message.compare(alloc, field, &readable, other_field, sections)?;
             Ok(comparison)
         }
         Err(opaque) => Err(CompareStop::Kept(Cause::Packing {

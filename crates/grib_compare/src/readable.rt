@@ -56,6 +56,16 @@ impl<'a> Readable<'a> {
         }
     }
 
+    /// The octets, from `GRIB` to `7777`.
+    pub(crate) fn octets(&self) -> &'a [u8]
+        ensures { result.now ≡ readable_octets self.now }
+    {
+        match self {
+            Readable::One(message) => message.octets(),
+            Readable::Two(message) => message.octets(),
+        }
+    }
+
     /// The number of fields.
     pub(crate) fn fields(&self) -> u32
         ensures { result ≡ fields_of (readable_octets self.now) }

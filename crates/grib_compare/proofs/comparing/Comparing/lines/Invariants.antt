@@ -11,5 +11,5 @@ invariant-loop-index l = record {
   text : l.lines.text.items ≡ texts_from (compare_line l.self.sections l.self.quiet l.self.file.now.fields l.place (readable_octets l.message)) l.index 1;
   count : l.lines.differing ≡ differing_from (λ i. differing_beside (field_compared l.self.sections l.self.file.now.fields l.place (readable_octets l.message) i)) l.index 1;
   few : l.lines.differing ≤ l.index;
-  stands : IfSome l.last (IsOfField l.self.file.now.fields);
+  stands : IfSome l.last (IsOfField l.self.file.now.fields (readable_octets l.message));
 }
