@@ -12,7 +12,7 @@ output, with notes that cannot be written, with a directory as input or none, wi
 `profile=open` each run of a command that reads messages has this argument, `to=42` is among the commands, and what the
 stated profile answers has to be what the open one answers, as far as it goes; with `profile=stated`, or nothing, no run has
 it. At the end it prints the runs, the findings, and the most time and memory that a case took for each octet that came and
-went, beyond what an empty run takes. The cases hang on `seed`, the profile and their number alone; `case=N` runs one of them. `runs` is how often the program is started,
+went, beyond the time of an empty run and 4 MB. The cases hang on `seed`, the profile and their number alone; `case=N` runs one of them. `runs` is how often the program is started,
 `jobs` how many processes share the work; an interrupt ends it after the case at hand, with the sums so far. Each
 finding is a line, and its input is kept in the folder `keep` (hostile-findings), as small as cutting makes it. A run ends
 after 200 seconds of processor time; runs of `values` that would take longer by their scale factors are left out, and counted.
@@ -804,14 +804,15 @@ def messages_before(plain, accepted):
     return int(plain.note.split()[2]) - 1 if plain.status == 3 else len(accepted)
 
 
-# The bounds of docs/PROFILE.md, chapter 10: seconds beyond one, for an octet that comes or goes and for a point; octets of
-# memory beyond eight million, for an octet that comes or goes, for a point, and for a point of `check` and `list`, which may
-# be a group. Times are three times those of the page, since the machine has other work.
-SECONDS, MEMORY = (600e-9, 900e-9), (3, 44, 10)
+# The bounds of docs/PROFILE.md, chapter 10: seconds beyond one, for an octet that comes or goes, for a point, and for a point
+# where no value is unpacked; octets of memory beyond eight million, for an octet that comes or goes, for a point, and for a point
+# of `check` and `list`, which may be a group. Times are three times those of the page, since the machine has other work.
+SECONDS, MEMORY = (600e-9, 900e-9, 60e-9), (3, 44, 10)
+NO_VALUES = ("check", "list", "keys", "filter", "split", "set")
 
 
-def most_time(octets, points):
-    return 1 + SECONDS[0] * octets + SECONDS[1] * points
+def most_time(octets, points, name):
+    return 1 + SECONDS[0] * octets + SECONDS[2 if name in NO_VALUES else 1] * points
 
 
 def most_memory(octets, points, name):
@@ -833,7 +834,7 @@ def claimed_points(data):
 
 
 def scale_seconds(words, data, accepted, points):
-    """The processor time of `values` by the greatest D of its messages, as far as it is known: 0.1 s a point at 32,767."""
+    """The most processor time of `values` by the greatest D of its messages."""
     if words[:1] != ["values"]:
         return 0
     greatest = 0
@@ -841,18 +842,18 @@ def scale_seconds(words, data, accepted, points):
         message = data[at:at + octets]
         places = [start + 17 for start, _, number in sections(message) if number == 5] if edition == 2 else [8 + 26]
         greatest = max([greatest] + [int.from_bytes(message[one:one + 2], "big") % 32768 for one in places])
-    return 0.15 * points * (greatest / 32767) ** 2
+    return 0.42e-9 * points * greatest ** 2
 
 
 def hold_bounds(runner, words, data, run, largest, total, written, more=0):
     """Processor time and memory of a run, and the most of each that was seen for an octet."""
     octets, name = len(data) + written, words[0] if words else ""
     hold(run.octets <= most_memory(octets, largest, name), "more memory than it may", words, run.octets, most_memory(octets, largest, name))
-    hold(run.seconds <= most_time(octets, total) + more, "more time than it may", words, run.seconds, most_time(octets, total))
+    hold(run.seconds <= most_time(octets, total, name) + more, "more time than it may", words, run.seconds, most_time(octets, total, name))
     if runner.empty is None:
         runner.empty = min(runner.run(["version"], b"").seconds for _ in range(5))
     about = f"{' '.join(words)}: {run.seconds:.3f} s and {run.octets / 1e6:.0f} MB for {len(data):,} octets that came, {written:,} that went and {total:,} points"
-    for what, cost, is_seen in (("time", run.seconds - runner.empty, run.seconds > runner.empty + 0.005), ("memory", run.octets - 2_500_000, run.octets > 3_000_000)):
+    for what, cost, is_seen in (("time", run.seconds - runner.empty, run.seconds > runner.empty + 0.005), ("memory", run.octets - 4_000_000, run.octets > 5_000_000)):
         if is_seen and octets and cost / octets > runner.worst.get(what, (0, ""))[0]:
             runner.worst[what] = cost / octets, about
 
@@ -868,8 +869,8 @@ def costs(program):
                 status, note, seconds, most = bombs.run(program, words, f"{folder}/in", f"{folder}/said", opened)
                 said = re.search(r"written (\d+)", note)
                 written = int(said[1]) if said else 60 * points if words[0] in ("dump", "values") else 100 * octets.count(b"GRIB")
-                factor = 0.15 * points if what.startswith("D of") and words[0] == "values" else 0
-                is_beyond = seconds > most_time(len(octets) + written, points) + factor or 1e6 * most > most_memory(len(octets) + written, points, words[0])
+                factor = 0.42e-9 * points * 32767 ** 2 if what.startswith("D of") and words[0] == "values" else 0
+                is_beyond = seconds > most_time(len(octets) + written, points, words[0]) + factor or 1e6 * most > most_memory(len(octets) + written, points, words[0])
                 wrong += is_beyond
                 print(f"{what}, {len(octets):,} octets, {points:,} points: {' '.join(words)}: status {status}, {seconds:.2f} s, {most:.0f} MB"
                       + (f", written {written:,}" if said else "") + " BEYOND THE BOUNDS" * is_beyond, flush=True)
@@ -1411,6 +1412,11 @@ def try_case(runner, draw, words, data, way):
         put_beside(runner, words, data)
     plain = runner.run(words, data)
     name = words[0] if words else ""
+    if name == "help" and words[1:]:
+        hold((plain.status, plain.note) == (0, b"") and plain.output.endswith(b"\n"), "help says nothing", words, plain.status, plain.note)
+        runner.seen["help on arguments"] += 1
+        hold_other_way(runner, draw, words, data, plain, way, [], False)
+        return
     going_on = plain.status != 1 and any(word.startswith(("refused=", "kept=")) for word in words)
     parts = runner.parts(going_on) if name == "split" and plain.status not in (1, 7) else []
     runner.seen[f"status {plain.status}"] += 1
@@ -1595,7 +1601,7 @@ def main():
     told = sorted((what, count) for what, count in counts.items() if what not in ("runs", "cases", "findings"))
     print("plain runs: " + ", ".join(f"{what} {count}" for what, count in told))
     for what, unit in (("time", 1e9), ("memory", 1)):
-        cost, about = max([worst.get(what, (0, "nothing above an empty run")) for _, worst in results])
+        cost, about = max([worst.get(what, (0, "no run took 5 ms more than an empty one, or 5 MB")) for _, worst in results])
         print(f"most {what} in a case: {cost * unit:,.0f} {'ns' if what == 'time' else 'octets'} an octet ({about})")
     sys.exit(counts["findings"] + beyond > 0)
 
