@@ -79,10 +79,58 @@ def inputs(fields):
     yield f"5.42, {fields} fields of the first kind", message(points, [of_8] * fields)
 
 
-def run(program, words, path, said):
+def groups(points, order=()):
+    """Section 5 from octet 22 on for as many groups as points, none of which has a bit, without missing values: of 5.2, and of
+    5.3 with an order and its octets."""
+    return b"\1\0" + b"\xff" * 8 + number(points, 4) + b"\0\0" + number(1, 4) + b"\1" + number(1, 4) + b"\0" + bytes(order)
+
+
+def scaled(points, binary, decimal, bits, seven):
+    """Sections 5 to 7 in simple packing with these scale factors."""
+    factors = b"".join(number(abs(one) + (0x8000 if one < 0 else 0), 2) for one in (binary, decimal))
+    return section(5, number(points, 4) + b"\0\0" + bytes.fromhex("42F6E666") + factors + bytes([bits, 0])) + section(6, b"\xff") + section(7, seven)
+
+
+def nested(count, inner):
+    """So many marks inside one another: each begins a Section 1 that holds those after it, and all have the other sections of a
+    message, whose end mark is wrong. So each of them is judged over its own octets, and refused at their end."""
+    first = 16 + int.from_bytes(inner[16:20], "big")
+    held, rest = inner[21:first], inner[first:-1] + b"6"
+    for _ in range(count):
+        head = number(len(held) + 5, 4) + b"\1"
+        held = b"GRIB\0\0\0\2" + number(16 + len(head) + len(held) + len(rest), 8) + head + held
+    return held + rest
+
+
+def few_octets():
+    """What costs the most for its octets: what it is, its octets, how many points are read in it, and the commands to try."""
+    points, half = NI * NJ, NI * NJ // 2
+    no_bits = data(points, 2, 0, groups(points), b"")
+    yield "as many groups as points, of no bits", message(points, [no_bits]), points, [["check"], ["stats"], ["values"], ["repack", "to=2"]]
+    second = data(points, 3, 0, groups(points, (2, 0)), b"")
+    yield "the same with differences of order 2", message(points, [second]), points, [["check"], ["stats"], ["dump"]]
+    yield "simple packing of 0 bits", message(points, [data(points, 0, 0, b"", b"")]), points, [["check"], ["dump"], ["repack", "to=least"]]
+    yield "5 marks inside one another, with such groups", nested(5, message(points, [no_bits])), 5 * points, [["check", "refused=pass"]]
+    yield "GRIB 250,000 times", b"GRIB" * 250_000, 0, [["check", "refused=pass"], ["set", "centre=7", "refused=copy"]]
+    yield "65,536 claims of 268 MB", (b"GRIB\0\0\0\2" + number(1 << 28, 8)) * 65_536, 0, [["check", "refused=pass"], ["dump"]]
+    mask = section(6, b"\0" + b"\xaa" * (points // 8))
+    shared = [data(half, 0, 0, b"", b"").replace(section(6, b"\xff"), one) for one in (mask, section(6, b"\xfe"))]
+    yield "two fields with one bitmap of every other point", message(points, shared), 2 * points, [["check"], ["repack", "to=0"], ["repack", "to=2"]]
+    many = message(4, [data(4, 0, 0, b"", b"")] * 201, 2, 2)
+    last = many.rindex(b"\0\0\0\x22\4") + 10
+    many = many[:last] + b"\1" + many[last + 1:]  # another parameter, so that not all fields have the same one
+    first = 16 + int.from_bytes(many[16:20], "big")
+    local = section(2, bytes(200_000))
+    many = b"GRIB\0\0\0\2" + number(len(many) + len(local), 8) + many[16:first] + local + many[first:]
+    yield "201 fields with a Section 2 of 200,000 octets", many, 804, [["check"], ["set", "centre=7"], ["filter", "number=0"]]
+    yield "D of 32,767, 10 points", message(10, [scaled(10, 0, 32_767, 0, b"")], 10, 1), 10, [["values"], ["dump"]]
+    yield "D of 3,000, 200 points", message(200, [scaled(200, 0, 3_000, 0, b"")], 200, 1), 200, [["values"]]
+
+
+def run(program, words, path, said, opened=True):
     """Status and note of a run, its processor seconds and its megabytes, by GNU time."""
     with open(path, "rb") as source, open(os.devnull, "wb") as out:
-        done = subprocess.run(["time", "-q", "-o", said, "-f", "%U %S %M", program, *words, "profile=open"], stdin=source, stdout=out,
+        done = subprocess.run(["time", "-q", "-o", said, "-f", "%U %S %M", program, *words, *["profile=open"] * opened], stdin=source, stdout=out,
                               stderr=subprocess.PIPE, check=False)
     with open(said, encoding="ascii") as file:
         user, system, most = file.read().split()

@@ -3,18 +3,22 @@
 
     bench/hostile.py PROGRAM FILE.. [profile=stated] [runs=10000] [seed=1] [jobs=1] [case=N] [keep=FOLDER]
 
-A case takes a few messages of the files, of docs/WORKED.md and of `make`, and some of them in CCSDS packing, damages them
+First, what costs the most for its octets (bench/bombs.py): the time and memory of each run on it are printed, and held to the
+bounds of docs/PROFILE.md, as are those of all runs that follow. A case takes a few messages of the files, of docs/WORKED.md and of `make`, and some of them in CCSDS packing, damages them
 (cuts, flips, splices, repeats, other lengths and counts, sizes that are claimed, other packed data), and gives them to `check` and to one command with words that
 it may have, all arguments of all commands among them: from a file,
 and in one more way: through a pipe in random pieces, to a reader that goes away, to a full device, to a closed
 output, with notes that cannot be written, with a directory as input or none, with 3 to 60 MB of address space. With
 `profile=open` each run of a command that reads messages has this argument, `to=42` is among the commands, and what the
 stated profile answers has to be what the open one answers, as far as it goes; with `profile=stated`, or nothing, no run has
-it. The cases hang on `seed`, the profile and their number alone; `case=N` runs one of them. `runs` is how often the program is started,
+it. At the end it prints the runs, the findings, and the most time and memory that a case took for each octet that came and
+went, beyond the time of an empty run and 4 MB. The cases hang on `seed`, the profile and their number alone; `case=N` runs one of them. `runs` is how often the program is started,
 `jobs` how many processes share the work; an interrupt ends it after the case at hand, with the sums so far. Each
-finding is a line, and its input is kept in the folder `keep` (hostile-findings), as small as cutting makes it.
+finding is a line, and its input is kept in the folder `keep` (hostile-findings), as small as cutting makes it. A run ends
+after 200 seconds of processor time; runs of `values` that would take longer by their scale factors are left out, and counted.
 What is printed and written is also worked out here: arrays, latitudes and longitudes, boxes in degrees, columns of lists, names, keys
-of edition 1. Commands and arguments that the program does not have yet are left out. Needs Python 3.8 and Linux."""
+of edition 1, what `compare` says of each field. Commands and arguments that the program does not have yet are left out. Needs
+Python 3.8, Linux and GNU time."""
 import calendar
 import collections
 import fractions
@@ -29,6 +33,7 @@ import sys
 import tempfile
 import time
 
+import bombs
 from decimals import fields_of
 from grids import ROUND, arrays, cause, degrees, grids, has_steps, in_box, nearest, texts
 from messages import reference_of
@@ -52,7 +57,7 @@ CAUSES = {
     "repack": ["EditionOne", r"SecondaryMissing field \d+ point \d+", r"OutOfRange field \d+ point \d+",
                r"DifferenceRange field \d+", r"OutputTooLong \d+"],
     "migrate": ["Loss " + LOSSES], "demote": [rf"Demotion ({DEMOTIONS} field \d+|{NUMBERED} \d+ field \d+)"],
-    "coordinates": ["EditionOne", r"(GridKind|ScanMode) field \d+"],
+    "coordinates": ["EditionOne", r"(GridKind|ScanMode) field \d+"], "compare": [],
 }
 CAUSES["dump"] = CAUSES["coordinates"] + [r"DecimalRange field \d+ point \d+"]
 CAUSES["rescan"] = CAUSES["crop"] = CAUSES["repack"] + [r"(GridKind|ScanMode|OutsideBox|Increments) field \d+"]
@@ -61,7 +66,7 @@ READ_PACKINGS = (0, 2, 3, 42)
 TARGETS = (["to=0"], ["to=2"], ["to=3", "order=1"], ["to=3", "order=2"])
 COPIES = ("filter", "split", "set", "repack", "migrate", "demote", "rescan", "crop")
 READERS = ("check", "list", "keys", "stats", "dump", "values", "coordinates")
-READ_VALUES = ("dump", "values", "stats", "repack", "rescan", "crop", "demote")
+READ_VALUES = ("dump", "values", "stats", "repack", "rescan", "crop", "demote", "compare")
 # The keys of edition 1: the octet of Section 1 at which each begins, and its octets.
 FIRST_KEYS = {"Version": (4, 1), "Centre": (5, 1), "Process": (6, 1), "GridNumber": (7, 1), "Flags": (8, 1), "Parameter": (9, 1), "LevelType": (10, 1),
               "Level": (11, 2), "YearOfCentury": (13, 1), "Month": (14, 1), "Day": (15, 1), "Hour": (16, 1), "Minute": (17, 1), "Unit": (18, 1), "P1": (19, 1),
@@ -82,7 +87,7 @@ def said_by_run(note, status):
 
 def given(words):
     """The words that a run has: those of its case, and `profile=open` behind them where the command takes it."""
-    return words + OPEN if words and words[0] in COPIES + READERS else words
+    return words + OPEN if words and words[0] in (*COPIES, *READERS, "compare") else words
 
 
 class Wrong(Exception):
@@ -100,7 +105,7 @@ class Runner:
     """Starts the program and counts how often. Files stand in a folder of its own."""
 
     def __init__(self, program):
-        self.program, self.count, self.seen = program, 0, collections.Counter()
+        self.program, self.count, self.seen, self.worst, self.empty = program, 0, collections.Counter(), {}, None
         memory = "/dev/shm" if os.access("/dev/shm", os.W_OK) else None
         self.work = tempfile.mkdtemp(prefix="hostile-", dir=memory)
         self.shelf = f"{self.work}/shelf"
@@ -146,9 +151,12 @@ class Runner:
             output = file.read() if seen is None else seen
         with open(names["note"], "rb") as file:
             note = said_by_run(file.read(), os.WEXITSTATUS(status))
-        # A process that was forked counts the memory that this one has as its own, until it has more.
-        own = resource.getrusage(resource.RUSAGE_SELF).ru_maxrss
-        return Run(os.WEXITSTATUS(status), output, note, 1024 * used.ru_maxrss if used.ru_maxrss > own else 0, seconds)
+        most = 0
+        if way == "file":
+            with open(f"{self.work}/said", encoding="ascii") as file:
+                most = 1024 * int(file.read())
+            hold(os.WEXITSTATUS(status) <= 127, "ended by a signal", words, way, os.WEXITSTATUS(status) - 128)
+        return Run(os.WEXITSTATUS(status), output, note, most, seconds)
 
     def become(self, words, names, way, draw, feeder, reader):
         """In the child: the three streams, the limit, the program."""
@@ -172,9 +180,13 @@ class Runner:
         if closed is not None:
             os.close(closed)
         os.closerange(3, 20)
+        resource.setrlimit(resource.RLIMIT_CPU, (200, 200))
         if way == "little memory":
             limit = draw.choice((3, 4, 5, 6, 8, 60)) * MEGABYTE
             resource.setrlimit(resource.RLIMIT_AS, (limit, limit))
+        if way == "file":
+            # A process that was forked from this one counts its memory as its own.
+            os.execvp("time", ["time", "-q", "-o", f"{self.work}/said", "-f", "%M", self.program, *words])
         os.execv(self.program, ["grib", *words])
 
 
@@ -539,10 +551,15 @@ def plain_command_of(draw, has, pool):
     """The arguments of a command, valid ones in most cases."""
     name = draw.choice([one for one in ("check", "list", "dump", "filter", "filter", "split", "set", "set", "repack", "repack", "repack",
                                         "make", "stats", "keys", "rescan", "crop", "migrate", "migrate", "demote", "demote", "decimals", "words", "help",
-                                        "values", "coordinates", "coordinates", "places", "degrees", "degrees", "columns", "names", "names", "first", "first", "dates", "editions")
+                                        "values", "coordinates", "coordinates", "places", "degrees", "degrees", "columns", "names", "names", "first", "first", "dates", "editions", "compare", "compare")
                         if one in has])
     if name == "help":
-        return [draw.choice(("help", "version", "--help", "--version"))]
+        return draw.choice((["help"], ["version"], ["--help"], ["--version"], ["help"] + plain_command_of(draw, has - {"help"}, pool), ["help", draw.choice(list(KEYS) + REASONS)]))
+    if name == "compare":
+        more = draw.choice(([], ["sections=all"], ["quiet=yes"], ["quiet=yes", "sections=all"]))
+        words = [f"with={draw.choice(BESIDE)}"] + more
+        draw.shuffle(words)
+        return ["compare"] + words
     if name == "decimals":
         return ["dump", f"decimals={draw.choice((0, 1, 2, 3, 7, 18))}"]
     if name == "values":
@@ -600,8 +617,8 @@ def commands_of(program):
                             ("demote", ["demote", f"params={top}/params/standard.csv"]), ("coded", ["repack", "to=42"] + OPEN),
                             ("values", ["values"]), ("coordinates", ["coordinates"]), ("places", ["dump", "place=yes"]), ("degrees", ["crop", "lat=0", "lon=0"]),
                             ("columns", ["list", "with=centre"]), ("names", ["list", NAMES]), ("first", ["filter", "Centre=98"]), ("dates", ["set", "centre=98", "dates=valid"]),
-                            ("editions", ["split", "out=shelf/part", "editions=both"])):
-            if runner.run(words, b"").status == 0:
+                            ("editions", ["split", "out=shelf/part", "editions=both"]), ("compare", ["compare", "with=absent"])):
+            if runner.run(words, b"").status == (4 if name == "compare" else 0):
                 has.add(name)
         return has
     finally:
@@ -787,13 +804,77 @@ def messages_before(plain, accepted):
     return int(plain.note.split()[2]) - 1 if plain.status == 3 else len(accepted)
 
 
-def hold_bounds(words, data, run, points):
-    """Processor time and memory: what comes, what goes, and 16 to 64 octets a point; 20 MB beyond it for what is claimed."""
-    if words and words[0] in ("check", "list"):
+# The bounds of docs/PROFILE.md, chapter 10: seconds beyond one, for an octet that comes or goes, for a point, and for a point
+# where no value is unpacked; octets of memory beyond eight million, for an octet that comes or goes, for a point, and for a point
+# of `check` and `list`, which may be a group. Times are three times those of the page, since the machine has other work.
+SECONDS, MEMORY = (600e-9, 900e-9, 60e-9), (3, 44, 10)
+NO_VALUES = ("check", "list", "keys", "filter", "split", "set")
+
+
+def most_time(octets, points, name):
+    return 1 + SECONDS[0] * octets + SECONDS[2 if name in NO_VALUES else 1] * points
+
+
+def most_memory(octets, points, name):
+    return 8_000_000 + MEMORY[0] * octets + MEMORY[2 if name in ("check", "list") else 1] * points
+
+
+def claimed_points(data):
+    """The points of each field of each message that begins at a GRIB, accepted or not, as far as their sections can be followed."""
+    found, at = [], data.find(b"GRIB")
+    while at >= 0:
         points = 0
-    most = 20 * MEGABYTE + 8 * len(data) + 100 * points
-    hold(run.octets <= most, "more memory than it may", words, run.octets, most)
-    hold(run.seconds <= 20 + points / 20_000, "more time than it may", words, run.seconds)
+        for start, length, number in sections(data[at:]) if data[at + 7:at + 8] == b"\2" else []:
+            if number == 3 and length > 10:
+                points = int.from_bytes(data[at + start + 6:at + start + 10], "big")
+            if number == 5 and points <= 1 << 25:
+                found.append(points)
+        at = data.find(b"GRIB", at + 4)
+    return found
+
+
+def scale_seconds(words, data, accepted, points):
+    """The most processor time of `values` by the greatest D of its messages."""
+    if words[:1] != ["values"]:
+        return 0
+    greatest = 0
+    for at, octets, edition, _ in accepted:
+        message = data[at:at + octets]
+        places = [start + 17 for start, _, number in sections(message) if number == 5] if edition == 2 else [8 + 26]
+        greatest = max([greatest] + [int.from_bytes(message[one:one + 2], "big") % 32768 for one in places])
+    return 0.42e-9 * points * greatest ** 2
+
+
+def hold_bounds(runner, words, data, run, largest, total, written, more=0):
+    """Processor time and memory of a run, and the most of each that was seen for an octet."""
+    octets, name = len(data) + written, words[0] if words else ""
+    hold(run.octets <= most_memory(octets, largest, name), "more memory than it may", words, run.octets, most_memory(octets, largest, name))
+    hold(run.seconds <= most_time(octets, total, name) + more, "more time than it may", words, run.seconds, most_time(octets, total, name))
+    if runner.empty is None:
+        runner.empty = min(runner.run(["version"], b"").seconds for _ in range(5))
+    about = f"{' '.join(words)}: {run.seconds:.3f} s and {run.octets / 1e6:.0f} MB for {len(data):,} octets that came, {written:,} that went and {total:,} points"
+    for what, cost, is_seen in (("time", run.seconds - runner.empty, run.seconds > runner.empty + 0.005), ("memory", run.octets - 4_000_000, run.octets > 5_000_000)):
+        if is_seen and octets and cost / octets > runner.worst.get(what, (0, ""))[0]:
+            runner.worst[what] = cost / octets, about
+
+
+def costs(program):
+    """Runs on what costs the most for its octets, each a line; how many are beyond the bounds."""
+    wrong, opened = 0, bool(OPEN)
+    with tempfile.TemporaryDirectory() as folder:
+        for what, octets, points, commands in bombs.few_octets():
+            with open(f"{folder}/in", "wb") as file:
+                file.write(octets)
+            for words in commands:
+                status, note, seconds, most = bombs.run(program, words, f"{folder}/in", f"{folder}/said", opened)
+                said = re.search(r"written (\d+)", note)
+                written = int(said[1]) if said else 60 * points if words[0] in ("dump", "values") else 100 * octets.count(b"GRIB")
+                factor = 0.42e-9 * points * 32767 ** 2 if what.startswith("D of") and words[0] == "values" else 0
+                is_beyond = seconds > most_time(len(octets) + written, points, words[0]) + factor or 1e6 * most > most_memory(len(octets) + written, points, words[0])
+                wrong += is_beyond
+                print(f"{what}, {len(octets):,} octets, {points:,} points: {' '.join(words)}: status {status}, {seconds:.2f} s, {most:.0f} MB"
+                      + (f", written {written:,}" if said else "") + " BEYOND THE BOUNDS" * is_beyond, flush=True)
+    return wrong
 
 
 def column_lines(dumped):
@@ -1040,6 +1121,115 @@ def hold_keys(plain, fields, runner, data, accepted):
         hold(picked.status == 0 and picked.output, "what keys prints does not pick its field", label, picked.note)
 
 
+BESIDE = "absent same packed bit less more none".split()
+
+
+def put_beside(runner, words, data):
+    """The file of `compare`, by its name: the input itself, its messages packed anew, with a bit changed, or without the
+    first or behind another one, or nothing."""
+    name = dict(conditions(words))["with"]
+    octets = data
+    if name == "packed":
+        octets = runner.run(["repack", "to=2", "refused=copy", "kept=copy"], data).output
+    if name == "bit" and data:
+        octets = data[:-9] + bytes([data[-9:-8][0] ^ 4]) + data[-8:] if len(data) > 9 else data
+    if name == "less":
+        octets = data[data.find(b"GRIB", 4):] if data.find(b"GRIB", 4) > 0 else b""
+    if name == "more":
+        octets = worked_messages()[0] + data
+    if name != "absent":
+        with open(f"{runner.work}/{name}", "wb") as file:
+            file.write(b"" if name == "none" else octets)
+
+
+def side(runner, data, accepted):
+    """For each field of the messages its message and number, its values, exactly, and its Sections 1 to 4; None in place of
+    both where they are not read."""
+    source, found = b"".join(data[at:at + octets] for at, octets, _, _ in accepted), {}
+    reference, values = None, None
+    for line in lines_of(runner.run(["dump", "kept=pass"], source).output):
+        words = line.split()
+        if words[0] == "reference":
+            mantissa, exponent, binary, decimal = reference_of(words)
+            top_part = mantissa * fractions.Fraction(2) ** exponent
+            step, shift = fractions.Fraction(2) ** binary, fractions.Fraction(10) ** decimal
+        elif "." in words[0]:
+            values = found[words[0]] = []
+        else:
+            values.append(words[1] if "missing" in words[1] else (top_part + int(words[1]) * step) / shift)
+    fields = []
+    for n, (at, octets, edition, count) in enumerate(accepted, 1):
+        message = data[at:at + octets]
+        own = {number: message[start:start + length] for start, length, number in sections(message)} if edition == 1 else None
+        starts = list(in_force(message)) if edition == 2 else [None]
+        for i in range(1, count + 1):
+            if own:
+                parts = [own[1], own[2] if message[15] & 128 else b"", b"", b""]
+            else:
+                parts = [message[starts[i - 1][one]:][:int.from_bytes(message[starts[i - 1][one]:][:4], "big")] if one in starts[i - 1] else b"" for one in (1, 2, 3, 4)]
+            fields.append((n, i, found.get(f"{n}.{i}"), parts, message))
+    return fields
+
+
+def opaque_template(message):
+    """The template of the first opaque packing of a message, or None."""
+    numbers = [int.from_bytes(message[at + 9:at + 11], "big") for at, _, number in sections(message) if number == 5] if message[7] == 2 else []
+    return next(((one, n) for n, one in enumerate(numbers, 1) if one not in READ_PACKINGS), None)
+
+
+def comparison(one, other, words):
+    """What is said of two fields."""
+    if len(one[2]) != len(other[2]):
+        return f"shape {len(one[2])} {len(other[2])}"
+    for n, (left, right) in enumerate(zip(one[2], other[2]), 1):
+        if left != right:
+            return f"differs point {n}"
+    for n, (left, right) in enumerate(zip(one[3], other[3]), 1) if "sections=all" in words else []:
+        if left != right:
+            return f"section {n} octet {next((k for k, (a, b) in enumerate(zip(left, right), 1) if a != b), min(len(left), len(right)) + 1)}"
+    return "same"
+
+
+def hold_compared(runner, words, plain, data, accepted):
+    """What `compare` says of each field and at the end."""
+    name = dict(conditions(words))["with"]
+    if name == "absent":
+        hold((plain.status, plain.output, plain.note) == (4, b"", b"file absent\n"), "a file that is absent", plain.status, plain.note)
+        return
+    with open(f"{runner.work}/{name}", "rb") as file:
+        there = file.read()
+    checked = runner.run(["check"], there)
+    if checked.status == 2:
+        hold((plain.status, plain.output, plain.note) == (2, b"", b"file " + checked.note), "a refusal of the file", plain.status, plain.note)
+        return
+    input_checked = runner.run(["check"], data)
+    others, mine = side(runner, there, accepted_of(checked)), side(runner, data, accepted)
+    lines, status, note, counts, done = [], None, b"", [0, 0], 0
+    for n, message in enumerate([data[at:at + octets] for at, octets, _, _ in accepted], 1):
+        ours = [one for one in mine if one[0] == n]
+        pairs = list(zip(ours, others[done:]))
+        cause = opaque_template(message)
+        if not cause:
+            cause = next(((opaque_template(other[4])[0], one[1]) for one, other in pairs if opaque_template(other[4])), None)
+        if cause:
+            status, note = 3, f"kept message {n} Packing {cause[0]} field {cause[1]}\n".encode()
+            break
+        for one, other in pairs:
+            said = comparison(one, other, words)
+            counts[said != "same"] += 1
+            if said != "same" or "quiet=yes" not in words:
+                lines.append(f"{n}.{one[1]} {said}\n")
+        done += len(ours)
+    if status is None and input_checked.status == 2:
+        status, note = 2, input_checked.note
+    if status is None:
+        more, left = max(done - len(others), 0), max(len(others) - done, 0)
+        lines.append(f"fields {done} same {counts[0]} differ {counts[1]} only-input {more} only-file {left}\n")
+        status = 12 if counts[1] or more or left else 0
+    wanted = status, "".join(lines).encode(), note
+    hold((plain.status, plain.output, plain.note) == wanted, "compared otherwise", words, plain.status, plain.note, status, note, plain.output[-200:], wanted[1][-200:])
+
+
 def listed(runner, data):
     return [dict(word.split("=", 1) for word in line.split()[1:]) for line in lines_of(runner.run(["list"], data).output)]
 
@@ -1174,7 +1364,7 @@ def begun_alike(note, other):
 
 def hold_way(words, data, plain, other, way, parts, other_parts):
     """A run in another way answers as the plain one, or says what failed, with a prefix of the output."""
-    if way in ("directory", "closed input") and words and words[0] not in NO_INPUT and plain.status not in (1, 4):
+    if way in ("directory", "closed input") and words and words[0] not in NO_INPUT and plain.status not in (1, 4) and not plain.note.startswith(b"file "):
         hold((other.status, other.output, other.note) == (5, b"", b"read fault\n"), "a directory", words, other.status, other.note)
         return
     same = (other.status, other.note) == (plain.status, plain.note)
@@ -1203,7 +1393,8 @@ def try_case(runner, draw, words, data, way):
     """All runs of one case. Raises Wrong at the first thing that may not be."""
     checked = runner.run(["check"], data)
     accepted = hold_check(data, checked)
-    hold_bounds(["check"], data, checked, 0)
+    claimed = claimed_points(data)
+    hold_bounds(runner, ["check"], data, checked, max(claimed, default=0), sum(claimed), len(checked.output))
     if OPEN:
         hold_stated(data, checked, runner.run(["check"], data, stated=True))
     fields = listed(runner, data)
@@ -1213,14 +1404,30 @@ def try_case(runner, draw, words, data, way):
         return
     if has_passing(runner):
         hold_passed(runner, data, checked)
+    slow = scale_seconds(words, data, accepted, sum(int(field["points"]) for field in fields))
+    if slow > 20:
+        runner.seen["values left out, by their scale factors"] += 1
+        return
+    if words[:1] == ["compare"]:
+        put_beside(runner, words, data)
     plain = runner.run(words, data)
     name = words[0] if words else ""
+    if name == "help" and words[1:]:
+        hold((plain.status, plain.note) == (0, b"") and plain.output.endswith(b"\n"), "help says nothing", words, plain.status, plain.note)
+        runner.seen["help on arguments"] += 1
+        hold_other_way(runner, draw, words, data, plain, way, [], False)
+        return
     going_on = plain.status != 1 and any(word.startswith(("refused=", "kept=")) for word in words)
     parts = runner.parts(going_on) if name == "split" and plain.status not in (1, 7) else []
     runner.seen[f"status {plain.status}"] += 1
     if plain.status in (2, 3) and not going_on:
-        runner.seen[plain.note.split()[5 if plain.status == 2 else 3].decode()] += 1
-    hold_bounds(words, data, plain, points)
+        runner.seen[plain.note.replace(b"file ", b"").split()[5 if plain.status == 2 else 3].decode()] += 1
+    claimed += [int(field["points"]) for field in fields]
+    hold_bounds(runner, words, data, plain, max(claimed, default=0), sum(claimed), len(plain.output) + sum(map(len, parts)) + len(plain.note), slow)
+    if words[:1] == ["compare"] and plain.status != 1:
+        hold_compared(runner, words, plain, data, accepted)
+        hold_other_way(runner, draw, words, data, plain, way, parts, going_on)
+        return
     if going_on and plain.status not in (4, 7):
         runner.seen["runs that go on"] += 1
         hold_policy(runner, words, data, plain, parts)
@@ -1321,7 +1528,7 @@ def work(arguments):
                 break
             number += options["jobs"]
         counts["runs"] = runner.count
-        return counts + runner.seen
+        return counts + runner.seen, runner.worst
     finally:
         runner.close()
 
@@ -1372,9 +1579,12 @@ def main():
     paths = [word for word in sys.argv[1:] if word not in words]
     if len(paths) < 2 or options["profile"] not in ("stated", "open"):
         sys.exit(__doc__)
+    if not shutil.which("time"):
+        sys.exit("time is not here (Debian: time)")
     OPEN[:] = ["profile=open"] * (options["profile"] == "open")
     options["runs"], options["jobs"] = int(options["runs"]), int(options["jobs"])
     program = os.path.abspath(paths[0])
+    beyond = costs(program) if options["case"] is None else 0
     pool, has = pool_of(program, paths[1:]), commands_of(program)
     if options["case"] is not None:
         options["jobs"] = 1
@@ -1385,12 +1595,15 @@ def main():
     else:
         with multiprocessing.Pool(options["jobs"]) as processes:
             results = processes.map(work, given, chunksize=1)
-    counts = sum(results, collections.Counter())
+    counts = sum((one for one, _ in results), collections.Counter())
     print(f"{counts['runs']} runs, {counts['cases']} cases over {len(pool)} messages, {counts['findings']} findings, "
           f"{time.monotonic() - begun:.0f} seconds; profile {options['profile']}, seed {options['seed']}; commands {' '.join(sorted(has - {'words'}))}")
     told = sorted((what, count) for what, count in counts.items() if what not in ("runs", "cases", "findings"))
     print("plain runs: " + ", ".join(f"{what} {count}" for what, count in told))
-    sys.exit(counts["findings"] > 0)
+    for what, unit in (("time", 1e9), ("memory", 1)):
+        cost, about = max([worst.get(what, (0, "no run took 5 ms more than an empty one, or 5 MB")) for _, worst in results])
+        print(f"most {what} in a case: {cost * unit:,.0f} {'ns' if what == 'time' else 'octets'} an octet ({about})")
+    sys.exit(counts["findings"] + beyond > 0)
 
 
 if __name__ == "__main__":
