@@ -92,7 +92,7 @@ const WORDS_AT_FAULT: [(&str, &str); 15] = [
     ),
 ];
 
-const VALUES_AT_FAULT: [(&str, &str); 16] = [
+const VALUES_AT_FAULT: [(&str, &str); 18] = [
     (
         "help dump decimals=19",
         "word 1 \"decimals=19\": decimals is a whole number from 0 to 18\n",
@@ -143,6 +143,14 @@ const VALUES_AT_FAULT: [(&str, &str); 16] = [
         "word 1 \"profile=open\": make has no profile=; its arguments: grib help make\n",
     ),
     ("help demote earth=6", "word 1 \"earth=6\": earth is any\n"),
+    (
+        "help compare with=f sections=3",
+        "word 2 \"sections=3\": sections is all\n",
+    ),
+    (
+        "help compare with=f refused=pass",
+        "word 2 \"refused=pass\": compare has no refused=; its arguments: grib help compare\n",
+    ),
     (
         "help check decimals=3",
         "word 1 \"decimals=3\": check has no decimals=; its arguments: grib help check\n",
@@ -271,7 +279,7 @@ const MORE_DONE: [(&str, &str); 8] = [
     ),
 ];
 
-const WANTED: [(&str, &str); 12] = [
+const WANTED: [(&str, &str); 13] = [
     ("help crop i0=0 i1=9", "crop wants j0= and j1=\n"),
     (
         "help crop i0=1 i1=0 j0=0 j1=0",
@@ -301,13 +309,14 @@ const WANTED: [(&str, &str); 12] = [
         "repack wants order= beside to=3 alone\n",
     ),
     ("help demote earth=any", "demote wants params=\n"),
+    ("help compare quiet=yes", "compare wants with=\n"),
     (
         "help filter kept=copy",
         "filter wants a key with its value, as centre=98; all keys: grib help keys\n",
     ),
 ];
 
-const DONE: [(&str, &str); 14] = [
+const DONE: [(&str, &str); 16] = [
     (
         "help list refused=pass",
         "grib list refused=pass: writes a line for each field, and skips what is refused.\n",
@@ -357,6 +366,14 @@ const DONE: [(&str, &str); 14] = [
         "grib crop lat=1 lon=0: writes of each message the grid point nearest to this place.\n",
     ),
     (
+        "help compare with=f",
+        "grib compare with=f: writes a line for each field that says whether it is the same as its counterpart in this file, and a line on all fields.\n",
+    ),
+    (
+        "help compare with=f sections=all quiet=yes",
+        "grib compare with=f sections=all quiet=yes: writes a line for each field that is not the same as its counterpart in this file, and a line on all fields.\n",
+    ),
+    (
         "help --version",
         "grib --version: writes the version of the program.\n",
     ),
@@ -389,7 +406,7 @@ const TEXTS: [(&str, &str); 8] = [
     ),
     (
         "help Packing",
-        "Packing             kept with profile=open by dump, values, stats, repack, rescan, crop and demote: the values of the field cannot be read, since its packing, 5.<template>, is not supported; kept=copy copies the message\n",
+        "Packing             kept with profile=open by dump, values, stats, repack, rescan, crop, compare and demote: the values of the field cannot be read, since its packing, 5.<template>, is not supported; kept=copy copies the message\n",
     ),
     (
         "help TooLong",

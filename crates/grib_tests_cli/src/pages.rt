@@ -25,6 +25,7 @@ grib rescan                                       points in scanning mode 0\n\
 grib crop i0=N i1=N j0=N j1=N                     a box of each grid\n\
 grib crop north=D south=D west=D east=D           a box in degrees\n\
 grib crop lat=D lon=D                             the nearest point\n\
+grib compare with=FILE [sections=all] [quiet=yes] fields beside those of a file\n\
 grib make seed=N ni=N nj=N to=0|2|3 [order=1|2]   a message made from a number\n\
 grib help                                         this page\n\
 grib version                                      the version of this program\n\
@@ -33,7 +34,7 @@ check to stats [refused=pass]                     goes on after what is refused\
 filter to crop [refused=copy|pass]                the same, or copies it\n\
 filter to crop [kept=copy|pass]                   goes on after what cannot be changed\n\
 dump, values, coordinates [kept=pass]             the same\n\
-check to crop [profile=open]                      any grid, product and packing\n\
+check to compare [profile=open]                   any grid, product and packing\n\
 Messages come from standard input and go to standard output. The pages: man grib\n\
 ";
 

@@ -45,6 +45,7 @@ fn command_of(asked: &Result<Job, JobFault>) -> &'static str {
         Ok(Job::Demote { .. }) => "demote",
         Ok(Job::Rescan) => "rescan",
         Ok(Job::Crop(_) | Job::Within(_)) => "crop",
+        Ok(Job::Compare { .. }) => "compare",
         Ok(Job::Make { .. }) => "make",
         Ok(Job::Print(Page::Help)) => "help",
         Ok(Job::Print(Page::Version)) => "version",
@@ -53,7 +54,7 @@ fn command_of(asked: &Result<Job, JobFault>) -> &'static str {
 }
 
 // Lines that are read, each as the command that its first word names.
-const READ: [&str; 95] = [
+const READ: [&str; 99] = [
     // Each command has its name.
     "check",
     "list",
@@ -158,6 +159,11 @@ const READ: [&str; 95] = [
     "crop i0=9 i1=10 j0=99 j1=100",
     "crop j1=33554431 j0=33554431 i1=33554431 i0=33554431",
     "crop i1=33554431 j0=0 i0=0 j1=33554431",
+    // `compare` takes a file, may look at sections, and may leave out what is the same.
+    "compare with=f",
+    "compare quiet=yes with==f",
+    "compare with=a=b sections=all quiet=yes",
+    "compare sections=all profile=open with=f",
     // `make` takes numbers within their bounds.
     "make seed=0 ni=1 nj=1 to=2",
     "make seed=2147483647 ni=4096 nj=4096 to=3 order=2",
@@ -168,7 +174,7 @@ const READ: [&str; 95] = [
 ];
 
 // Lines that are not, with the place of the first word that is not read.
-const UNREAD: [(u64, &str); 164] = [
+const UNREAD: [(u64, &str); 172] = [
     // Others have none.
     (0, ""),
     (0, "Check"),
@@ -326,6 +332,15 @@ const UNREAD: [(u64, &str); 164] = [
     (5, "crop i0=10 i1=9 j0=0 j1=0"),
     (5, "crop j0=100 j1=99 i0=0 i1=0"),
     (5, "crop i0=0 i1=0 j0=0 j1=0 to=0"),
+    // `compare` takes a file, may look at sections, and may leave out what is the same; it goes past nothing.
+    (1, "compare"),
+    (1, "compare with="),
+    (1, "compare sections=4 with=f"),
+    (2, "compare with=f quiet=no"),
+    (2, "compare with=f with=f"),
+    (2, "compare with=f refused=pass"),
+    (2, "compare with=f kept=copy"),
+    (3, "compare quiet=yes sections=all"),
     // `make` takes numbers within their bounds.
     (1, "make"),
     (1, "make seed=2147483648 ni=1"),
