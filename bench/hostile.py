@@ -12,7 +12,7 @@ output, with notes that cannot be written, with a directory as input or none, wi
 `profile=open` each run of a command that reads messages has this argument, `to=42` is among the commands, and what the
 stated profile answers has to be what the open one answers, as far as it goes; with `profile=stated`, or nothing, no run has
 it. At the end it prints the runs, the findings, and the most time and memory that a case took for each octet that came and
-went, beyond the time of an empty run and 4 MB. The cases hang on `seed`, the profile and their number alone; `case=N` runs one of them. `runs` is how often the program is started,
+went, beyond what it takes without an input. The cases hang on `seed`, the profile and their number alone; `case=N` runs one of them. `runs` is how often the program is started,
 `jobs` how many processes share the work; an interrupt ends it after the case at hand, with the sums so far. Each
 finding is a line, and its input is kept in the folder `keep` (hostile-findings), as small as cutting makes it. A run ends
 after 200 seconds of processor time; runs of `values` that would take longer by their scale factors are left out, and counted.
@@ -105,7 +105,7 @@ class Runner:
     """Starts the program and counts how often. Files stand in a folder of its own."""
 
     def __init__(self, program):
-        self.program, self.count, self.seen, self.worst, self.empty = program, 0, collections.Counter(), {}, None
+        self.program, self.count, self.seen, self.worst = program, 0, collections.Counter(), {}
         memory = "/dev/shm" if os.access("/dev/shm", os.W_OK) else None
         self.work = tempfile.mkdtemp(prefix="hostile-", dir=memory)
         self.shelf = f"{self.work}/shelf"
@@ -850,12 +850,14 @@ def hold_bounds(runner, words, data, run, largest, total, written, more=0):
     octets, name = len(data) + written, words[0] if words else ""
     hold(run.octets <= most_memory(octets, largest, name), "more memory than it may", words, run.octets, most_memory(octets, largest, name))
     hold(run.seconds <= most_time(octets, total, name) + more, "more time than it may", words, run.seconds, most_time(octets, total, name))
-    if runner.empty is None:
-        runner.empty = min(runner.run(["version"], b"").seconds for _ in range(5))
     about = f"{' '.join(words)}: {run.seconds:.3f} s and {run.octets / 1e6:.0f} MB for {len(data):,} octets that came, {written:,} that went and {total:,} points"
-    for what, cost, is_seen in (("time", run.seconds - runner.empty, run.seconds > runner.empty + 0.005), ("memory", run.octets - 4_000_000, run.octets > 5_000_000)):
-        if is_seen and octets and cost / octets > runner.worst.get(what, (0, ""))[0]:
-            runner.worst[what] = cost / octets, about
+    for what, of, beyond in (("time", lambda one: one.seconds, 0.005), ("memory", lambda one: one.octets, MEGABYTE)):
+        most = runner.worst.get(what, (0, ""))[0]
+        if octets and of(run) > 2 * beyond and of(run) / octets > most:
+            # The program's own start, and the tables that it reads, cost as much without an input.
+            cost = of(run) - min(of(runner.run(words, b"")) for _ in range(3))
+            if cost > beyond and cost / octets > most:
+                runner.worst[what] = cost / octets, about
 
 
 def costs(program):
@@ -1601,7 +1603,7 @@ def main():
     told = sorted((what, count) for what, count in counts.items() if what not in ("runs", "cases", "findings"))
     print("plain runs: " + ", ".join(f"{what} {count}" for what, count in told))
     for what, unit in (("time", 1e9), ("memory", 1)):
-        cost, about = max([worst.get(what, (0, "no run took 5 ms more than an empty one, or 5 MB")) for _, worst in results])
+        cost, about = max([worst.get(what, (0, "no run took 5 ms, or 1 MB, more than without an input")) for _, worst in results])
         print(f"most {what} in a case: {cost * unit:,.0f} {'ns' if what == 'time' else 'octets'} an octet ({about})")
     sys.exit(counts["findings"] + beyond > 0)
 
