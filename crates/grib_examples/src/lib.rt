@@ -7,6 +7,7 @@ pub mod answers;
 pub mod changes;
 pub mod coded;
 pub mod columns;
+pub mod comparing;
 pub mod edition1;
 pub mod grammar;
 pub mod lines;
