@@ -42,7 +42,7 @@ impl Whole {
         higher.times_plus(alloc, 1 << (twos % 32), number)
     }
 
-    /// The number times `10 ^ tens`.
+    /// The number times `10 ^ tens`. That of 0 is 0, whatever `tens` is.
     ///
     /// # Errors
     ///
@@ -50,6 +50,10 @@ impl Whole {
     pub(crate) fn times_tens(self, alloc: Global, tens: u32) -> Result<Whole, AllocError>
         ensures { IfOk result (λ whole. value whole ≡ value self *ℤ pos (10 ^ tens)) }
     {
+        let zero = Whole::of(alloc, 0);
+        if self.is(&zero) {
+            return Ok(zero);
+        }
         let mut product = self;
         let mut left = tens;
         while left > 0 {
