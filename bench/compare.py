@@ -11,7 +11,7 @@ import sys
 import tempfile
 from pathlib import Path
 
-from messages import messages
+from messages import messages, sections
 
 TOP = Path(__file__).resolve().parent.parent
 PACKINGS = (["to=0"], ["to=2"], ["to=3", "order=1"], ["to=3", "order=2"])
@@ -28,17 +28,9 @@ def compare(program, folder, message, other, *words):
     return run(program, ["compare", f"with={file}", *words], message)
 
 
-def sections_of(message):
-    """The number and the place of each section of a message of edition 2."""
-    place = 16
-    while message[place : place + 4] != b"7777":
-        yield message[place + 4], place
-        place += int.from_bytes(message[place : place + 4], "big")
-
-
 def changed(message, pick):
     """A message of one field in simple packing with the last bit of one number changed, and the point, from 1."""
-    at = dict(sections_of(message))
+    at = {number: start for start, _, number in sections(message)}
     values = int.from_bytes(message[at[5] + 5 : at[5] + 9], "big")
     points = int.from_bytes(message[at[3] + 6 : at[3] + 10], "big")
     bits = message[at[5] + 19]

@@ -21,21 +21,19 @@ import subprocess
 import sys
 import tempfile
 
-from messages import cause, messages, told
+from messages import cause, messages, sections, told
 
 top = os.path.dirname(os.path.dirname(os.path.abspath(__file__)))
 
 
 def parameters(message):
     """The centre and the parameter of each field of a message of edition 2."""
-    at, discipline, centre, tables = 16, message[6], None, None
-    while message[at : at + 4] != b"7777":
-        length, number = int.from_bytes(message[at : at + 4], "big"), message[at + 4]
+    discipline, centre, tables = message[6], None, None
+    for at, _, number in sections(message):
         if number == 1:
             centre, tables = int.from_bytes(message[at + 5 : at + 7], "big"), (message[at + 9], message[at + 10])
         if number == 4:
             yield centre, (discipline, message[at + 9], message[at + 10], *tables)
-        at += length
 
 
 def table(paths):

@@ -3,6 +3,8 @@ fractions, and the points of boxes in degrees. The numbers are those of chapter 
 import struct
 from fractions import Fraction
 
+from messages import sections
+
 ROUND = 360_000_000
 
 
@@ -17,13 +19,10 @@ def signed(octets, first, last):
 
 def grids(message):
     """The Section 3 in force for each field."""
-    found, at, grid = [], 16, b""
-    while message[at:at + 4] != b"7777":
-        length = number(message, at + 1, at + 4)
-        if message[at + 4] == 3:
-            grid = message[at:at + length]
-        found += [grid] * (message[at + 4] == 7)
-        at += length
+    found, grid = [], b""
+    for at, length, one in sections(message):
+        grid = message[at:at + length] if one == 3 else grid
+        found += [grid] * (one == 7)
     return found
 
 

@@ -36,7 +36,7 @@ import time
 import bombs
 from decimals import fields_of
 from grids import ROUND, arrays, cause, degrees, grids, has_steps, in_box, nearest, texts
-from messages import reference_of
+from messages import reference_of, sections
 from values import words_of
 
 top = os.path.dirname(os.path.dirname(os.path.abspath(__file__)))
@@ -235,20 +235,6 @@ def worked_messages():
     with open(f"{top}/docs/WORKED.md", encoding="utf-8") as page:
         blocks = re.findall(r"^```\n(47524942[0-9A-F\s]*)```", page.read(), re.M)
     return [bytes.fromhex("".join(block.split())) for block in blocks]
-
-
-def sections(message):
-    """Start, length and number of each section, as far as they can be followed; 1 to 4 in edition 1."""
-    found, two = [], message[7:8] == b"\2"
-    at, head = (16, 4) if two else (8, 3)
-    while at + 5 <= len(message) and message[at:at + 4] != b"7777" and len(found) < 30_000:
-        length = int.from_bytes(message[at:at + head], "big")
-        if length < 5 or at + length > len(message):
-            break
-        number = message[at + 4] if two else len(found) + 1
-        found.append((at, length, number))
-        at += length
-    return found
 
 
 # The numbers of each section that are worth changing: first octet and width, from 1.

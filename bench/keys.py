@@ -13,7 +13,7 @@ import subprocess
 import sys
 import tempfile
 
-from messages import messages
+from messages import messages, sections
 
 # The section of each key with its first and its last octet, 's' for a number with sign and 'm' for one that may be
 # missing. The places of scanning, la1 and lo1 and those of ensembles and intervals go by the template.
@@ -44,13 +44,11 @@ def run(words, octets):
 
 def fields(message):
     """The sections in force for each field, by their numbers."""
-    sections, at = {0: message[:16]}, 16
-    while message[at : at + 4] != b"7777":
-        length = int.from_bytes(message[at : at + 4], "big")
-        sections[message[at + 4]] = message[at : at + length]
-        if message[at + 4] == 7:
-            yield dict(sections)
-        at += length
+    own = {0: message[:16]}
+    for at, length, number in sections(message):
+        own[number] = message[at : at + length]
+        if number == 7:
+            yield dict(own)
 
 
 def keys(sections):

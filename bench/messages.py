@@ -14,6 +14,20 @@ def messages(data, edition=2):
             at = data.find(b"GRIB", at + 4)
 
 
+def sections(message):
+    """Start, length and number of each section, as far as they can be followed; 1 to 4 in edition 1."""
+    found, two = [], message[7:8] == b"\2"
+    at, head = (16, 4) if two else (8, 3)
+    while at + 5 <= len(message) and message[at:at + 4] != b"7777" and len(found) < 30_000:
+        length = int.from_bytes(message[at:at + head], "big")
+        if length < 5 or at + length > len(message):
+            break
+        number = message[at + 4] if two else len(found) + 1
+        found.append((at, length, number))
+        at += length
+    return found
+
+
 def cause(note):
     """The cause of a note, as `Demotion Level`, `Loss Parameter` or `refused GridType`."""
     words = note.split()

@@ -11,27 +11,12 @@ import subprocess
 import sys
 import tempfile
 
+from grids import grids, number
 from messages import messages, our_fields
 
 
 def run(words, octets):
     return subprocess.run(words, input=octets, capture_output=True)
-
-
-def number(octets, first, last):
-    return int.from_bytes(octets[first - 1:last], "big")
-
-
-def grids(message):
-    """The Section 3 in force for each field."""
-    found, at, grid = [], 16, b""
-    while message[at:at + 4] != b"7777":
-        length = int.from_bytes(message[at:at + 4], "big")
-        section = message[at:at + length]
-        grid = section if section[4] == 3 else grid
-        found += [grid] if section[4] == 7 else []
-        at += length
-    return found
 
 
 def place(scanning, ni, nj, n):
