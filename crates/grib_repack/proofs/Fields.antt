@@ -1,9 +1,11 @@
 -- Lemmas on fields that are tried one after another.
-use Rattle.std.proofs.Common.{◌≡◌, ℕ, zero, suc, ◌+◌, ◌-◌, ◌<◌, ◌≤◌, Option, Some, None, List, [], ◌∷◌, ◌++◌, inl, inr, refl, sym, ap, ◌∙◌, arith, subst, zero-add}
+use Rattle.std.proofs.Common.{◌≡◌, ℕ, zero, suc, ◌+◌, ◌-◌, ◌<◌, ◌≤◌, Bool, cond, Option, Some, None, List, [], ◌∷◌, ◌++◌, length, inl, inr, refl, sym, ap, ◌∙◌, arith, subst, zero-add, lt-ltb}
 use Rattle.std.specs.List.{range_with_len}
 use Rattle.std.proofs.lemmas.Bool.{cases_eq}
 use Rattle.grib_packing.specs.Misfits.{Target}
-use Rattle.grib_repack.specs.Repacked.{RepackMisfit, field_misfit, misfit_among, or_later}
+use Rattle.grib2_message.specs.Fields.{field_count}
+use Rattle.grib_repack.specs.Repacked as misfits
+use Rattle.grib_repack.specs.Repacked.{RepackMisfit, repacked, field_misfit, misfit_among, or_later, length_misfit, repack_misfit}
 use Rattle.grib_repack.specs.Faults.{IsRepackFault}
 use Rattle.grib_repack.specs.declared.fault.RepackFault.{RepackFault}
 use Rattle.grib_repack.specs.declared.fault.RepackFault.TheVariants.{SecondaryMissing, OutOfRange, DifferenceRange, OutputTooLong, Memory}
@@ -90,3 +92,18 @@ module _ (target : Target) (message : List ℕ) where
 
   pub each_fits : (n i : ℕ) → misfit_among target message (range_with_len 1 n) ≡ None → 1 ≤ i → i ≤ n → field_misfit target message i ≡ None
   each_fits n i none low high = each_from 1 n i none low (omega arith)
+
+  -- so is it the first of the message
+  pub fault_in : (n : ℕ) (fault : RepackFault) → n < field_count message → misfit_among target message (range_with_len 1 n) ≡ None
+      → IsRepackFault (field_misfit target message (n + 1)) fault → IsRepackFault (repack_misfit target message) fault
+  fault_in n fault low none is =
+      fault_later (misfit_among target message (range_with_len 1 (field_count message))) (λ _. length_misfit (length (repacked target message))) fault
+      (fault_among n (field_count message) fault low none is)
+
+  -- where no field fails, that it would be too long
+  pub fault_long : (total : ℕ) → misfit_among target message (range_with_len 1 (field_count message)) ≡ None → total ≡ length (repacked target message) → 268435456 < total
+      → repack_misfit target message ≡ Some (misfits.OutputTooLong total)
+  fault_long total none is long =
+      ap (λ (o : Option RepackMisfit). or_later o (λ _. length_misfit (length (repacked target message)))) none
+      ∙ ap length_misfit (sym is)
+      ∙ ap (λ (b : Bool). cond b (Some (misfits.OutputTooLong total)) None) (lt-ltb 268435456 total long)

@@ -1,4 +1,5 @@
 pub mod Fields
+mod Whole
 pub mod Sections
 mod InBlocks
 pub mod Ranges

@@ -1,2 +1,3 @@
 pub mod Repacked
 pub mod Faults
+pub mod Lengths

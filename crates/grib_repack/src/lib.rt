@@ -6,12 +6,14 @@ mod fault;
 mod field;
 mod groups;
 pub mod laws;
+mod lengths;
 mod plain;
 mod repacking;
 mod target;
 
 pub use fault::RepackFault;
 pub use field::pack_field;
+pub use lengths::{kept_length, packed_length};
 pub use plain::pack_simply;
 pub use repacking::repack;
 pub use target::RepackTarget;
