@@ -2,3 +2,4 @@ pub mod Smallest
 pub mod Kept
 pub mod Again
 pub mod Tried
+mod Counted

@@ -1,5 +1,5 @@
 -- Lemmas on the form that is chosen.
-use Rattle.std.proofs.Common.{◌≡◌, ℕ, ◌+◌, ◌≤◌, ◌<◌, Bool, cond, nat_lt, min, Option, Some, None, List, [], ◌∷◌, length, inl, inr, refl, sym, ap, ◌∙◌, arith, subst, le-ltb}
+use Rattle.std.proofs.Common.{◌≡◌, ℕ, ◌+◌, ◌≤◌, ◌<◌, min, Option, Some, None, List, [], ◌∷◌, length, inl, inr, refl, sym, ap, ◌∙◌, arith, subst}
 use Rattle.std.specs.List.{filter_map}
 use Rattle.grib_base.specs.declared.profile.Profile.{Profile}
 use Rattle.grib_packing.specs.declared.column.Column.{Column}
@@ -117,7 +117,3 @@ form_is profile message i limit own own_is limit_is =
 -- a message that is not put together, since it would be too long
 pub long_by : (total n : ℕ) (fault : AssembleFault) → fault ≡ TooLong n → IsAssembleFault total fault → 268435456 < total
 long_by total n fault is told = let h : IsAssembleFault total (TooLong n) = subst (IsAssembleFault total) is told in omega (arith, h.0, h.1)
-
--- it is not taken
-pub too_long : (message other : List ℕ) → length message ≤ 268435456 → 268435456 < length other → message ≡ cond (nat_lt (length other) (length message)) other message
-too_long message other most long = sym (ap (λ (b : Bool). cond b other message) (le-ltb (length other) (length message) (omega (arith, most, long))))

@@ -1,8 +1,8 @@
 //! Writing a message in the fewest octets.
 
-ghost use Rattle.std.specs.Prelude.{◌≡◌, ◌+◌, ◌≤◌, All, IfOk};
+ghost use Rattle.std.specs.Prelude.{◌≡◌, ◌+◌, ◌≤◌, ◌<◌, length, All, IfOk, MatchOption};
 ghost use Rattle.grib_packing.specs.Written.{IsTarget, MayBePacked};
-ghost use Rattle.grib2_message.specs.Assembled.{IsShort};
+ghost use Rattle.grib2_message.specs.Assembled.{assembled, IsShort};
 ghost use Rattle.grib2_message.specs.Fields.{field_count, column_of};
 ghost use Rattle.grib2_message.specs.Message.{IsAnyMessage};
 ghost use Rattle.grib_repack.specs.Faults.{target_of};
@@ -15,7 +15,7 @@ ghost use Rattle.grib_least.specs.Least.{form_of, least, size_of};
 use grib_base::{List, Profile};
 use grib_packed::laws::{a_packing_is_written, one_packing_is_written};
 use grib_packing::{Column, PackFault, Packed, are_octets};
-use grib_repack::{RepackTarget, pack_field};
+use grib_repack::{RepackTarget, kept_length, pack_field};
 use grib2_message::{AssembleFault, ReadableMessage};
 use std::alloc::{AllocError, Global};
 
@@ -49,7 +49,8 @@ const TRIALS: [RepackTarget; 8] = [
 /// one reference to the next. A packing that the profile does not have, or that cannot represent the values of the
 /// field, is left out. Where that message is not shorter, it is the message itself, octet for octet.
 ///
-/// It holds the message, the chosen forms, and one column and one other form at a time.
+/// It holds the message, the chosen forms, which have fewer octets than the message, and the forms and the column of one
+/// field at a time.
 ///
 /// # Errors
 ///
@@ -62,42 +63,41 @@ pub fn repack_least(
     ensures { IfOk result (λ octets. octets.items ≡ least profile message.now) }
 {
     let octets = message.octets();
-    let forms = least_forms(alloc, message, profile)?;
+    let Some(forms) = least_forms(alloc, message, profile)? else {
+        return octets.to_vec(alloc);
+    };
     match message.assemble(alloc, &forms) {
-        Ok(other) => shorter(alloc, octets, other),
-        Err(AssembleFault::TooLong(_)) => octets.to_vec(alloc),
+        Ok(other) => Ok(other),
+        Err(AssembleFault::TooLong(_)) => unreachable!(),
         Err(AssembleFault::Memory) => Err(AllocError),
     }
 }
 
-/// The shorter of a message and another; where they are as long, the message.
-fn shorter(alloc: Global, message: &[u8], other: Vec<u8>) -> Result<Vec<u8>, AllocError>
-    ensures { IfOk result (λ octets. octets.items ≡ definitions.shorter message.now other.items) }
-{
-    if other.len() < message.len() {
-        Ok(other)
-    } else {
-        message.to_vec(alloc)
-    }
-}
-
-/// The form in which each field of the message is written.
+/// The form in which each field of the message is written; none where the message with these forms is not shorter.
+/// Then no form is held from the field on that shows it.
 fn least_forms(
     alloc: Global,
     message: &ReadableMessage<'_>,
     profile: Profile,
-) -> Result<Vec<Packed>, AllocError>
-    requires { IsAnyMessage message.now }
-    ensures forms { IfOk result (λ forms. forms.items ≡ definitions.least_forms profile message.now) }
-    ensures short { IfOk result (λ forms. All IsShort forms.items) }
+) -> Result<Option<Vec<Packed>>, AllocError>
+    ensures { IfOk result (λ found. MatchOption found
+        (length message.now ≤ length (assembled message.now (definitions.least_forms profile message.now)))
+        (λ forms. (forms.items ≡ definitions.least_forms profile message.now) × All IsShort forms.items
+        × (length (assembled message.now (definitions.least_forms profile message.now)) < length message.now))) }
 {
     let fields = message.fields();
+    let limit = message.octets().len() as u64;
     let mut forms = Vec::with_capacity(alloc, fields as usize)?;
+    let mut total = kept_length(message);
     for before in 0..fields {
         let form = least_form(alloc, message, before + 1, profile)?;
+        total += size(&form);
+        if limit <= total {
+            return Ok(None);
+        }
         forms.push(form)?;
     }
-    Ok(forms)
+    Ok(Some(forms))
 }
 
 /// The form in which one field is written, counted from 1.
