@@ -1,20 +1,23 @@
 -- Lemmas on fields that are tried one after another.
-use Rattle.std.proofs.Common.{◌≡◌, ℕ, zero, suc, ◌+◌, ◌-◌, ◌<◌, ◌≤◌, Option, Some, None, option_map, List, [], ◌∷◌, ◌++◌, inl, inr, refl, sym, ap, ◌∙◌, arith, subst}
+use Rattle.std.proofs.Common.{◌≡◌, ℕ, zero, suc, ◌+◌, ◌-◌, ◌<◌, ◌≤◌, Bool, cond, Option, Some, None, option_map, List, [], ◌∷◌, ◌++◌, length, sum_by, inl, inr, refl, sym, ap, ◌∙◌, arith, subst, lt-ltb}
 use Rattle.std.specs.List.{range_with_len}
 use Rattle.std.proofs.lemmas.Bool.{cases_eq}
+use Rattle.std.proofs.lemmas.List.FromFn.{length-map-range_with_len, sum_by-map-range_with_len_more}
 use Rattle.grib_packing.specs.Misfits.{Misfit}
 use Rattle.grib_rescan.specs.declared.cause.GridCause.{GridCause}
 use Rattle.grib_base.specs.Rows.{first_fault}
 use Rattle.grib2_grids.specs.Grid.{grid_rows}
 use Rattle.grib_packing.specs.declared.written.Packed.{Packed}
-use Rattle.grib2_message.specs.Fields.{part_octets}
+use Rattle.grib2_message.specs.Assembled.{assembled_with}
+use Rattle.grib2_message.specs.Fields.{field_count, part_octets}
+use Rattle.grib_repack.specs.Lengths.{kept_length, packed_length}
 use Rattle.grib_repack.proofs.Fields.{range-at, range-more}
 use Rattle.grib_repack.proofs.Packing.{parts_more, short_more}
 use Rattle.grib_reorder.specs.declared.edit.GridEdit.{GridEdit}
 use Rattle.grib_reorder.specs.declared.fault.RescanFault.{RescanFault}
 use Rattle.grib_reorder.specs.declared.fault.RescanFault.TheVariants.{GridKind, ScanMode, OutsideBox, Increments, OutOfRange, DifferenceRange, OutputTooLong, Memory}
-use Rattle.grib_reorder.specs.Fields.{IsFieldEdited, AreFieldsEdited}
-use Rattle.grib_reorder.specs.Rescanned.{EditMisfit, cause_of, grid_misfit, column_misfit, edited_field, OfGrid, OfColumn, field_misfit, misfit_among, or_later}
+use Rattle.grib_reorder.specs.Fields.{IsFieldEdited, AreFieldsEdited, IsAsLongEdited, length_with}
+use Rattle.grib_reorder.specs.Rescanned.{EditMisfit, cause_of, section_of, grid_misfit, column_misfit, edited, edited_field, edited_fields, OfGrid, OfColumn, TooLong, field_misfit, misfit_among, length_misfit, edit_misfit, or_later}
 use Rattle.grib_reorder.specs.Faults.{IsRescanFault}
 
 pub no_grid : (i : ℕ) (cause : Option GridCause) → option_map (OfGrid i) cause ≡ None → cause ≡ None
@@ -88,6 +91,21 @@ module _ (edit : GridEdit) (message : List ℕ) where
   pub each_fits : (n i : ℕ) → misfit_among edit message (range_with_len 1 n) ≡ None → 1 ≤ i → i ≤ n → field_misfit edit message i ≡ None
   each_fits n i none low high = each_from 1 n i none low (omega arith)
 
+  -- so is it the first of the message
+  pub fault_in : (n : ℕ) (fault : RescanFault) → n < field_count message → misfit_among edit message (range_with_len 1 n) ≡ None
+      → IsRescanFault (field_misfit edit message (n + 1)) fault → IsRescanFault (edit_misfit edit message) fault
+  fault_in n fault low none is =
+      fault_later (misfit_among edit message (range_with_len 1 (field_count message))) (λ _. length_misfit (length (edited edit message))) fault
+      (fault_among n (field_count message) fault low none is)
+
+  -- where no field fails, that it would be too long
+  pub fault_long : (total : ℕ) → misfit_among edit message (range_with_len 1 (field_count message)) ≡ None → total ≡ length (edited edit message) → 268435456 < total
+      → edit_misfit edit message ≡ Some (TooLong total)
+  fault_long total none is long =
+      ap (λ (o : Option EditMisfit). or_later o (λ _. length_misfit (length (edited edit message)))) none
+      ∙ ap length_misfit (sym is)
+      ∙ ap (λ (b : Bool). cond b (Some (TooLong total)) None) (lt-ltb 268435456 total long)
+
 -- the parts of one more field
 pub fields_more : (edit : GridEdit) (message : List ℕ) (n : ℕ) (items new : List Packed) (p : Packed) → AreFieldsEdited edit message n items
     → IsFieldEdited edit message (n + 1) p → new ≡ items ++ p ∷ [] → AreFieldsEdited edit message (n + 1) new
@@ -109,3 +127,19 @@ each_taken edit message n items are i low high = (
   no_grid i (cause_of edit (part_octets message i 3))
       (none_later (grid_misfit edit message i) (λ _. column_misfit edit message i) (each_fits edit message n i are.fit low high)).0,
 )
+
+-- ---- how long the message is
+
+-- with one more field
+pub length_more : (edit : GridEdit) (message : List ℕ) (n : ℕ) → length_with edit message (n + 1) ≡ length_with edit message n + packed_length (edited_field edit message (n + 1))
+length_more edit message n =
+    omega (arith, sum_by-map-range_with_len_more packed_length (edited_field edit message) 1 n (n + 1) (omega arith))
+
+-- and with all
+pub edited_long : (edit : GridEdit) (message : List ℕ) (kept : ℕ) → kept ≡ kept_length message
+    → ((grid : List ℕ → List ℕ) (parts : List Packed) → length parts ≡ field_count message
+    → ((i : ℕ) → 1 ≤ i → i ≤ field_count message → length (grid (part_octets message i 3)) ≡ length (part_octets message i 3))
+    → length (assembled_with grid message parts) ≡ kept + sum_by packed_length parts)
+    → IsAsLongEdited edit message
+edited_long edit message kept is whole same =
+    omega (arith, is, whole (section_of edit) (edited_fields edit message) (length-map-range_with_len (edited_field edit message) 1 (field_count message)) same)

@@ -1,5 +1,5 @@
 -- What is known of fields that are edited.
-use Rattle.std.specs.Prelude.{◌≡◌, ◌⊎◌, ℕ, ◌≤◌, false, None, List, map, All}
+use Rattle.std.specs.Prelude.{◌≡◌, ◌⊎◌, ℕ, ◌+◌, ◌≤◌, false, None, List, length, map, sum_by, All}
 use Rattle.std.specs.List.{range_with_len, list_any}
 use Rattle.grib_base.specs.Rows.{first_fault}
 use Rattle.grib2_grids.specs.Grid.{grid_rows}
@@ -9,9 +9,10 @@ use Rattle.grib_packing.specs.Misfits.{is_missing2}
 use Rattle.grib_packing.specs.Packing.{packing_template}
 use Rattle.grib_packing.specs.Written.{MayBePacked}
 use Rattle.grib2_message.specs.Assembled.{IsShort}
-use Rattle.grib2_message.specs.Fields.{part_octets}
+use Rattle.grib2_message.specs.Fields.{field_count, part_octets}
+use Rattle.grib_repack.specs.Lengths.{kept_length, packed_length}
 use Rattle.grib_reorder.specs.declared.edit.GridEdit.{GridEdit}
-use Rattle.grib_reorder.specs.Rescanned.{grid_misfit, field_misfit, misfit_among, edited_column, edited_field}
+use Rattle.grib_reorder.specs.Rescanned.{section_of, grid_misfit, field_misfit, misfit_among, edited, edited_column, edited_field}
 
 -- simple packing and CCSDS packing tell the missing points by a bitmap alone, so that none is secondary missing
 abbrev pub IsBitmapTemplate : ℕ → Type 0
@@ -38,3 +39,14 @@ pub record AreFieldsEdited (edit : GridEdit) (message : List ℕ) (n : ℕ) (pac
   pub are : packed ≡ map (edited_field edit message) (range_with_len 1 n)
   pub short : All IsShort packed
   pub rows : (i : ℕ) → 1 ≤ i → i ≤ n → first_fault (grid_rows (part_octets message i 3)) ≡ None
+
+-- how many octets the message has with the new sections of the first n fields: those that stay, and theirs
+abbrev pub length_with : GridEdit → List ℕ → ℕ → ℕ
+length_with edit message n =
+    kept_length message + sum_by packed_length (map (edited_field edit message) (range_with_len 1 n))
+
+-- with those of all it is as long as that, where each Section 3 becomes another that is as long
+abbrev pub IsAsLongEdited : GridEdit → List ℕ → Type 0
+IsAsLongEdited edit message =
+    ((i : ℕ) → 1 ≤ i → i ≤ field_count message → length (section_of edit (part_octets message i 3)) ≡ length (part_octets message i 3))
+    → length (edited edit message) ≡ length_with edit message (field_count message)

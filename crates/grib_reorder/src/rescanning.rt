@@ -1,18 +1,20 @@
 //! Putting a message in another order, and cutting out a subarea.
 
-ghost use Rattle.std.specs.Prelude.{◌≡◌, ◌≤◌, None, MatchResult};
+ghost use Rattle.std.specs.Prelude.{◌≡◌, ◌≤◌, ◌<◌, None, map, MatchResult};
 ghost use Rattle.std.specs.List.{range_with_len};
 ghost use Rattle.grib2_message.specs.Fields.{field_count};
-ghost use Rattle.grib_reorder.specs.Rescanned.{Stands, edited, field_misfit, grid_misfit, misfit_among, edit_misfit};
-ghost use Rattle.grib_reorder.specs.Fields.{IsColumnEdited, IsFieldEdited, AreFieldsEdited};
+ghost use Rattle.grib_reorder.specs.Rescanned.{Stands, edited, edited_field, field_misfit, grid_misfit, edit_misfit};
+ghost use Rattle.grib_reorder.specs.Fields.{IsColumnEdited, IsFieldEdited, AreFieldsEdited, IsAsLongEdited, length_with};
 ghost use Rattle.grib_reorder.specs.Faults.{IsRescanFault};
 ghost use Rattle.grib_reorder.specs.declared.edit.GridEdit.TheVariants as edits;
 
 use crate::packing::pack_as;
 use crate::plain::plain_field;
 use crate::{GridEdit, RescanFault};
+use grib_base::MOST_OCTETS;
 use grib_packed::laws::one_packing_is_written;
 use grib_packing::{Column, PackFault, Packed};
+use grib_repack::{kept_length, packed_length};
 use grib_rescan::Area;
 use grib_rescan::laws::what_has_no_cause;
 use grib2_message::ReadableMessage;
@@ -22,7 +24,9 @@ use std::alloc::Global;
 /// of a row from the west. Sections 5, 6 and 7 of each field are packed anew as the field is packed, each
 /// Section 3 has the first corner in the north west, and all other octets but the total length are as before. It
 /// holds the message, the new sections and one column at a time; two where the points of a column of the
-/// grid are consecutive, unless the field is in simple packing without missing points.
+/// grid are consecutive, unless the field is in simple packing without missing points. The new sections that it holds
+/// have 268,435,456 octets at most, besides those of the last field: once the message is too long, the later fields are
+/// packed one at a time, for their causes and lengths alone.
 ///
 /// # Errors
 ///
@@ -39,8 +43,8 @@ pub fn rescan(alloc: Global, message: &ReadableMessage<'_>) -> Result<Vec<u8>, R
 
 /// The message with a subarea of its grids alone. Sections 5, 6 and 7 of each field are packed anew as the field
 /// is packed, each Section 3 has the numbers and corners of the subarea, and all other octets but the total
-/// length are as before. It holds the message, the new sections and the column of one subarea at a time, and beside it that
-/// of the whole field, unless the field is in simple packing without missing points.
+/// length are as before. It holds the message, the new sections, as `rescan` does, and the column of one subarea at a time,
+/// and beside it that of the whole field, unless the field is in simple packing without missing points.
 ///
 /// # Errors
 ///
@@ -82,7 +86,7 @@ pub fn edit_message(
     Ok(message.assemble_with(alloc, edit, &packed)?)
 }
 
-/// Sections 5, 6 and 7 of each field of the message.
+/// Sections 5, 6 and 7 of each field of the message, or why it is not edited.
 fn edit_fields(
     alloc: Global,
     message: &ReadableMessage<'_>,
@@ -91,17 +95,53 @@ fn edit_fields(
     requires { Stands edit.now }
     ensures { MatchResult result
         (λ packed. AreFieldsEdited edit.now message.now (field_count message.now) packed.items)
-        (IsRescanFault (misfit_among edit.now message.now (range_with_len 1 (field_count message.now)))) }
+        (IsRescanFault (edit_misfit edit.now message.now)) }
 {
     let fields = message.fields();
     let mut packed = Vec::with_capacity(alloc, fields as usize)?;
+    let mut total = kept_length(message);
     for before in 0..fields {
         let field = edit_field(alloc, message, before + 1, edit)?;
+        total += packed_length(&field);
         let Ok(()) = packed.push(field) else {
             return Err(RescanFault::Memory);
         };
+        if total > MOST_OCTETS {
+            drop(packed);
+            return Err(too_long(alloc, message, edit, before + 1, total));
+        }
     }
     Ok(packed)
+}
+
+/// Why a message is not edited that is too long with the new sections of its first fields: the first cause of a later
+/// field, or how many octets it would have. `total` are those that stay and those of the first `done` fields. The
+/// sections of one field are held at a time.
+fn too_long(
+    alloc: Global,
+    message: &ReadableMessage<'_>,
+    edit: &GridEdit,
+    done: u32,
+    total: u64,
+) -> RescanFault
+    requires stands { Stands edit.now }
+    requires done { done ≤ field_count message.now }
+    requires whole { IsAsLongEdited edit.now message.now }
+    requires edited { AreFieldsEdited edit.now message.now done
+        (map (edited_field edit.now message.now) (range_with_len 1 done)) }
+    requires total { total ≡ length_with edit.now message.now done }
+    requires long { 268435456 < total }
+    requires few { total ≤ 17179869184 }
+    ensures { IsRescanFault (edit_misfit edit.now message.now) result }
+{
+    let mut whole = total;
+    for before in done..message.fields() {
+        match edit_field(alloc, message, before + 1, edit) {
+            Ok(field) => whole += packed_length(&field),
+            Err(fault) => return fault,
+        }
+    }
+    RescanFault::OutputTooLong(whole)
 }
 
 /// Sections 5, 6 and 7 of one field, counted from 1.
