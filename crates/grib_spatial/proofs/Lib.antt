@@ -7,3 +7,4 @@ pub mod Reach
 pub mod Following
 pub mod Steadily
 pub mod Telling
+pub mod Repeated

@@ -1,5 +1,5 @@
 -- Where all first values were told, numbers whose reach is within the range are steady.
-use Rattle.std.proofs.Common.{◌≡◌, ℕ, inl, inr, ◌+◌, ◌^◌, ◌≤◌, ℤ, nat_abs, refl}
+use Rattle.std.proofs.Common.{ℕ, inl, inr, ◌+◌, ◌^◌, ◌≤◌, ℤ, nat_abs, refl}
 use Rattle.grib_packing.specs.Differences.{Descriptors}
 use Rattle.grib_spatial.specs.Follows.{last_of}
 use Rattle.grib_spatial.specs.Reach.{reach_of, IsSteadyAfter}

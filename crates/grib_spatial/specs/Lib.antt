@@ -4,3 +4,4 @@ pub mod Follows
 pub mod Reach
 pub mod Undoing
 pub mod Trail
+pub mod Same

@@ -5,6 +5,7 @@ mod differences;
 mod differencing;
 pub mod laws;
 mod running;
+mod same;
 mod steady;
 mod trail;
 mod undoing;

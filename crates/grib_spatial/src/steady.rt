@@ -128,7 +128,7 @@ impl Steady {
 /// How far from 0 numbers can come after these two, by `count` differences of at most this size. `None`
 /// beyond 2^64 - 1.
 #[inline]
-fn reach(order: u64, before: i64, last: i64, size: u64, count: u32) -> Option<u64>
+pub(crate) fn reach(order: u64, before: i64, last: i64, size: u64, count: u32) -> Option<u64>
     requires before { nat_abs before ≤ 2 ^ 60 }
     requires last { nat_abs last ≤ 2 ^ 60 }
     ensures { IfSome result (λ reach. reach ≡ reach_of order before last size count) }
