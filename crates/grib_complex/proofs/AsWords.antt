@@ -1,5 +1,5 @@
 -- Words of codes, once all points came.
-use Rattle.std.proofs.Common.{◌≡◌, ℕ, suc, ◌+◌, ◌-◌, ◌^◌, ◌<◌, ◌≤◌, ◌||◌, subst₂, Bool, true, false, cond, max, Some, None, nat_abs, nat_lt, ℤ, pos, negsuc, List, [], ◌∷◌, length, map, refl, sym, ap, ap₂, ◌∙◌, arith, lt-ltb, le-ltb, All}
+use Rattle.std.proofs.Common.{◌≡◌, ℕ, ◌+◌, ◌-◌, ◌^◌, ◌<◌, ◌≤◌, ◌||◌, subst₂, Bool, true, false, cond, max, Some, None, nat_abs, nat_lt, ℤ, pos, negsuc, List, [], ◌∷◌, length, map, refl, sym, ap, ap₂, ◌∙◌, arith, lt-ltb, le-ltb, All}
 use Rattle.std.specs.List.{list_any}
 use Rattle.std.proofs.lemmas.List.Elements.{All-head, All-tail}
 use Rattle.grib_base.specs.declared.code.Code.{Code}

@@ -18,13 +18,13 @@ use Rattle.grib_complex.specs.Laws.{told-append, told-plainly-append, after-appe
 
 -- ---- the first place out of range
 
-nowhere_more : (points more : List Point) → first_place is_out_of_range points ≡ 0 → All IsWithin more → first_place is_out_of_range (points ++ more) ≡ 0
+pub nowhere_more : (points more : List Point) → first_place is_out_of_range points ≡ 0 → All IsWithin more → first_place is_out_of_range (points ++ more) ≡ 0
 nowhere_more points [] none within = ap (first_place is_out_of_range) (append-nil points) ∙ none
 nowhere_more points (point ∷ more) none within =
     ap (first_place is_out_of_range) (sym (append_assoc points (point ∷ []) more))
     ∙ nowhere_more (points ++ point ∷ []) more (place_nowhere is_out_of_range points point none (All-head IsWithin point more within)) (All-tail IsWithin point more within)
 
-before_more : (points more : List Point) → 0 < first_place is_out_of_range points → first_place is_out_of_range (points ++ more) ≡ first_place is_out_of_range points
+pub before_more : (points more : List Point) → 0 < first_place is_out_of_range points → first_place is_out_of_range (points ++ more) ≡ first_place is_out_of_range points
 before_more points [] some = ap (first_place is_out_of_range) (append-nil points)
 before_more points (point ∷ more) some =
     let one = place_before is_out_of_range points point some in
@@ -33,7 +33,7 @@ before_more points (point ∷ more) some =
 
 -- ---- codes that come at once, none of whose numbers is out of range
 
-tells_run : (start : Telling) (seen codes : List Code) (before last : Teller) → length seen + length codes < 2 ^ 63 → Tells start seen before
+pub tells_run : (start : Telling) (seen codes : List Code) (before last : Teller) → length seen + length codes < 2 ^ 63 → Tells start seen before
     → last.place ≡ (before.place + length codes) % 2 ^ 64 → last.beyond ≡ before.beyond
     → (before.beyond ≡ 0 → All IsWithin (told (after start seen) codes)) → (before.beyond ≡ 0 → telling_of last.running ≡ after (after start seen) codes)
     → Tells start (seen ++ codes) last

@@ -1,5 +1,5 @@
 -- Lemmas on extra descriptors that come in pieces.
-use Rattle.std.proofs.Common.{◌≡◌, ℕ, zero, suc, ◌+◌, ◌*◌, ◌^◌, ◌<◌, ◌≤◌, Bool, false, cond, eqb, Some, None, List, [], ◌++◌, length, drop, refl, sym, ap, ap₂, ◌∙◌, arith, mul_comm, subst, inl, inr}
+use Rattle.std.proofs.Common.{◌≡◌, ℕ, zero, suc, ◌+◌, ◌*◌, ◌^◌, ◌<◌, ◌≤◌, ◌⊎◌, Bool, false, cond, eqb, Some, None, List, [], ◌++◌, length, drop, refl, sym, ap, ap₂, ◌∙◌, arith, mul_comm, subst, inl, inr}
 use Rattle.std.proofs.lemmas.List.{drop_all, take_all}
 use Rattle.grib_bits.specs.Bits.{bits}
 use Rattle.grib_bits.specs.Plain.{plain}
@@ -7,6 +7,7 @@ use Rattle.grib_base.specs.declared.code.Code.{Code}
 use Rattle.grib_base.specs.declared.fault.Fault.{Fault}
 use Rattle.grib_base.specs.declared.fault.Reason.TheVariants.{FirstValueSign}
 use Rattle.grib_base.specs.Rows.{refusal}
+use Rattle.grib_packing.specs.declared.column.Point.{Point}
 use Rattle.grib_packing.specs.declared.group.Group.{Group}
 use Rattle.grib_packing.specs.declared.layout.Layout.{Layout}
 use Rattle.grib_packing.specs.Differences.{Descriptors, NoNumber}
@@ -22,12 +23,14 @@ use Rattle.grib_groups.proofs.Reading.{references_read}
 use Rattle.grib_complex.specs.declared.noted.Told.{Told}
 use Rattle.grib_complex.specs.declared.representation.Complex.{Complex}
 use Rattle.grib_complex.specs.declared.stages.Beginning.{Beginning}
-use Rattle.grib_complex.specs.Descriptors.{AreTold, IsAccepted, descriptors_by, descriptors_in, descriptors_told, is_signed_at, is_signed_number, numbers_at, sign_fault}
-use Rattle.grib_complex.specs.Feeding.{AreClear, BeginningAgrees, Continues, IsFaultOf, ListingAgrees}
+use Rattle.grib_complex.specs.Alike.{AllPass, ListsFail, RangeFails}
+use Rattle.grib_complex.specs.Descriptors.{AreTold, IsAccepted, descriptors_by, descriptors_in, descriptors_told, is_signed_at, is_signed_number, numbers_at, sign_fault, telling_by, telling_told}
+use Rattle.grib_complex.specs.Feeding.{AreClear, BeginningAgrees, Continues, IsFaultOf, ListingAgrees, PassingAgrees}
 use Rattle.grib_complex.specs.Told.{Plainly, After}
 use Rattle.grib_complex.proofs.Arriving.{signs_refuse}
 use Rattle.grib_complex.proofs.Begun.{descriptors_fed, numbers_read, read_numbers}
 use Rattle.grib_complex.proofs.NotedNumbers.{among, sign_stays, signed_is, told_by_numbers}
+use Rattle.grib_complex.proofs.Settled.{settled_lists, settled_passes, settled_range}
 
 -- there are at most three of them
 pub few_orders : (complex : Complex) → IsAccepted complex → complex.order ≤ 2
@@ -135,6 +138,25 @@ module _ {K : Type 0} (s5 : List ℕ) (keeper : K) (l : ℕ) (octets piece : Lis
         ∙ plain-front 0 (8 * extra) (order + 1) all c.rest (omega arith) (omega (arith, whole, mul_comm extra (order + 1)))
         ∙ sym numbers_are
 
+    module _ (told : Told) (are : AreTold b.complex.order b.complex.extra after.taker.items.items told) where
+      pub order_is : told.order ≡ b.complex.order
+      order_is = ap (λ (d : Descriptors). d.order) are.descriptors
+
+      -- they tell the codes of each section that continues these octets
+      pub telling_came : (s7 : List ℕ) → Continues (octets ++ piece) l s7 → telling_told told ≡ telling_by b.complex.order b.complex.extra s7
+      telling_came s7 c =
+          let numbers = ap (λ (ns : List ℕ). descriptors_told order extra ns) (sym (section_numbers s7 c)) in
+          let same : descriptors_in told ≡ descriptors_by order extra s7 = are.descriptors ∙ numbers ∙ told_by_numbers s7 order extra c.known (long_enough s7 c) in
+          ap (λ (d : Descriptors). cond (eqb d.order 0) Plainly (After d NoNumber)) same
+
+    -- no first value of such a section has its top bit set
+    pub unsigned_came : is_signed_number b.complex.order b.complex.extra after.taker.items.items 0 ≡ false → is_signed_number b.complex.order b.complex.extra after.taker.items.items 1 ≡ false
+        → (s7 : List ℕ) → Continues (octets ++ piece) l s7 → (is_signed_at b.complex.order b.complex.extra s7 0 ≡ false) × (is_signed_at b.complex.order b.complex.extra s7 1 ≡ false)
+    unsigned_came first_clear second_clear s7 c = (
+      signed_is s7 order extra c.known (long_enough s7 c) 0 ∙ ap (λ (ns : List ℕ). is_signed_number order extra ns 0) (section_numbers s7 c) ∙ first_clear,
+      signed_is s7 order extra c.known (long_enough s7 c) 1 ∙ ap (λ (ns : List ℕ). is_signed_number order extra ns 1) (section_numbers s7 c) ∙ second_clear,
+    )
+
     -- the lists are next
     pub begins_list : (told : Told) (lists : FedLists) → AreTold b.complex.order b.complex.extra after.taker.items.items told
         → is_signed_number b.complex.order b.complex.extra after.taker.items.items 0 ≡ false → is_signed_number b.complex.order b.complex.extra after.taker.items.items 1 ≡ false
@@ -149,19 +171,35 @@ module _ {K : Type 0} (s5 : List ℕ) (keeper : K) (l : ℕ) (octets piece : Lis
           few = agrees.few;
           within = agrees.within;
           came = whole;
-          order = ap (λ (d : Descriptors). d.order) are.descriptors;
+          order = order_is told are;
           first = are.first;
           second = are.second;
           minimum = are.minimum;
-          told_is = λ s7 c.
-              let numbers = ap (λ (ns : List ℕ). descriptors_told order extra ns) (sym (section_numbers s7 c)) in
-              let same : descriptors_in told ≡ descriptors_by order extra s7 = are.descriptors ∙ numbers ∙ told_by_numbers s7 order extra c.known (long_enough s7 c) in
-              ap (λ (d : Descriptors). cond (eqb d.order 0) Plainly (After d NoNumber)) same;
-          unsigned = λ s7 c. (
-            signed_is s7 order extra c.known (long_enough s7 c) 0 ∙ ap (λ (ns : List ℕ). is_signed_number order extra ns 0) (section_numbers s7 c) ∙ first_clear,
-            signed_is s7 order extra c.known (long_enough s7 c) 1 ∙ ap (λ (ns : List ℕ). is_signed_number order extra ns 1) (section_numbers s7 c) ∙ second_clear,
-          );
+          told_is = telling_came told are;
+          unsigned = unsigned_came first_clear second_clear;
           lists = subst (λ (os : List ℕ). ListsFed b.complex.layout b.complex.simple.values os lists) (sym (drop_all size octets agrees.below)) listed;
           feedable = feedable;
           keeper_is = agrees.keeper_is;
         }
+
+    -- or no row fails, where the groups are all alike and no points are kept
+    pub passes_alike : (told : Told) → AreTold b.complex.order b.complex.extra after.taker.items.items told
+        → is_signed_number b.complex.order b.complex.extra after.taker.items.items 0 ≡ false → is_signed_number b.complex.order b.complex.extra after.taker.items.items 1 ≡ false
+        → (kept : K → List Point → K → Type 0) → ((points : List Point) → kept b.keeper points b.keeper) → (start : ℕ) → AllPass b.complex told start l
+        → PassingAgrees kept s5 keeper l (octets ++ piece) b.keeper
+    passes_alike told are first_clear second_clear kept keeps start all =
+        let here = settled_passes b.complex s5 agrees.spelled agrees.accepted agrees.groups start l (octets ++ piece) agrees.within whole told (order_is told are) (telling_came told are) (unsigned_came first_clear second_clear) kept b.keeper keeps all in
+        record {
+          passes = here.passes;
+          counted = here.counted;
+          keeps = subst (λ (n : K). (points : List Point) → kept n points b.keeper) agrees.keeper_is keeps;
+        }
+
+    -- or one does
+    pub refused_alike : (told : Told) → AreTold b.complex.order b.complex.extra after.taker.items.items told
+        → is_signed_number b.complex.order b.complex.extra after.taker.items.items 0 ≡ false → is_signed_number b.complex.order b.complex.extra after.taker.items.items 1 ≡ false
+        → (start : ℕ) (fault : Fault) → ListsFail b.complex start l fault ⊎ RangeFails b.complex told start l fault → IsFaultOf s5 start l (octets ++ piece) fault
+    refused_alike told are first_clear second_clear start fault fails = elim fails [
+      | inl lists ↦ settled_lists b.complex s5 agrees.spelled agrees.accepted agrees.groups start l (octets ++ piece) agrees.within whole told (order_is told are) (telling_came told are) (unsigned_came first_clear second_clear) fault lists
+      | inr range ↦ settled_range b.complex s5 agrees.spelled agrees.accepted agrees.groups start l (octets ++ piece) agrees.within whole told (order_is told are) (telling_came told are) (unsigned_came first_clear second_clear) fault range
+    ]

@@ -26,3 +26,6 @@ pub mod AtLeast
 pub mod DifferencesTold
 pub mod AsWords
 pub mod Placed
+pub mod Repeated
+pub mod Uniform
+pub mod Settled

@@ -9,3 +9,4 @@ pub mod Written
 pub mod FieldCodes
 pub mod Constant
 pub mod KeptWords
+pub mod Alike

@@ -1,6 +1,7 @@
 //! Complex packing, with and without spatial differencing: templates 5.2 and 5.3.
 #![tactic(auto)]
 
+mod alike;
 mod below;
 mod coding;
 mod constant;

@@ -15,6 +15,7 @@ ghost use Rattle.grib_complex.specs.Descriptors.{IsAccepted, descriptors_in, is_
 ghost use Rattle.grib_complex.specs.Told.{After, told as points_of};
 ghost use Rattle.grib_complex.specs.Feeding.{AreOctets, BeginningAgrees, CanBegin, CanList, IsFedState, IsWholeListing, IsWholeState, ListingAgrees, StateAgrees};
 
+use crate::alike::{Outcome, outcome_of};
 use crate::noted::{Told, signed_fault};
 use crate::range::stays_by;
 use crate::representation::Complex;
@@ -174,7 +175,8 @@ impl<K: Keeper + Drop> ComplexReading<K> {
 
 impl<K: Keeper + Drop> Beginning<K> {
     /// Reads the next octets, where this many came before, and goes on to the lists where the descriptors are
-    /// whole. A first value is tried as soon as it is.
+    /// whole. A first value is tried as soon as it is. Lists of groups that are all alike are not read where no
+    /// points are kept.
     fn push(
         self,
         alloc: Global,
@@ -210,9 +212,17 @@ impl<K: Keeper + Drop> Beginning<K> {
                 keeper,
             });
         }
+        let told = Told::of(&descriptors.taker().items, complex.order, complex.extra);
+        if !keeper.keeps() {
+            match outcome_of(&complex, &told, start, length) {
+                Outcome::Passes => return ComplexReading::Passes(keeper),
+                Outcome::Refused(fault) => return ComplexReading::Refused(fault, keeper),
+                Outcome::Open => {}
+            }
+        }
         let between = Between {
             complex,
-            told: Told::of(&descriptors.taker().items, complex.order, complex.extra),
+            told,
             lists: FedLists::start(alloc, &complex.layout, lists),
             keeper,
         };

@@ -1,6 +1,6 @@
 //! The points that codes tell.
 
-ghost use Rattle.std.specs.Prelude.{◌≡◌, ℕ, ◌+◌, ◌<◌, ◌≤◌, ◌^◌, true, List, [], ◌∷◌, ◌++◌, length};
+ghost use Rattle.std.specs.Prelude.{◌≡◌, ℕ, ◌+◌, ◌<◌, ◌≤◌, ◌^◌, true, List, [], ◌∷◌, ◌++◌, length, replicate};
 ghost use Rattle.grib_base.specs.declared.code.Code.{Code as code_of_value};
 ghost use Rattle.grib_groups.specs.Taking.{number_of};
 ghost use Rattle.grib_complex.specs.Told.{Telling, point_of, after, undoing};
@@ -73,6 +73,26 @@ impl Teller {
                 }
                 Point::Missing
             }
+        }
+    }
+
+    /// The points of `count` codes that are all this one, of which only the place of the first out of range is kept.
+    pub fn tell_same(&mut self, code: Code, count: u32)
+        requires { number_of code < 2 ^ 49 }
+        ensures stays { 0 < self.old.beyond → self.new.beyond ≡ self.old.beyond }
+        ensures undoes { undoing (telling_of self.new.running) ≡ undoing (telling_of self.old.running) }
+        ensures tells { (start : Telling) (seen : List code_of_value) → length seen + count < 2 ^ 63 → Tells start seen self.old → Tells start (seen ++ replicate count code) self.new }
+    {
+        let before = self.place;
+        self.place = before.wrapping_add(u64::from(count));
+        let number = match code {
+            Code::Present(number) => number,
+            Code::Primary => return,
+            Code::Secondary => return,
+        };
+        let within = self.running.push_same(number, count);
+        if within < count && self.beyond == 0 {
+            self.beyond = before.wrapping_add(u64::from(within) + 1);
         }
     }
 }

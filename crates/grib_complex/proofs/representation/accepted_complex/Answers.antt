@@ -1,5 +1,4 @@
-use Rattle.std.proofs.Common.{◌≡◌, Option, Some, None, sym, ap, ◌∙◌}
-use Rattle.grib_base.specs.declared.fault.Fault.{Fault}
+use Rattle.std.proofs.Common.{◌≡◌, Some, None, sym, ap, ◌∙◌}
 use Rattle.grib_base.specs.Rows.{located}
 use Rattle.grib_packing.proofs.Packings.{packing_fault-complex, packing_shared}
 use Rattle.grib_complex.proofs.Accepting.{accepted_from}
