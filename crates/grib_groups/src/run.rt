@@ -79,6 +79,9 @@ fn same_at_once<T: RunTaker>(coding: Coding, count: u32, taker: T) -> T
     requires ready { T.RunTaker.ready taker count (coding.reference + 1) }
     ensures { (xs : _) → T.Taker.took taker (map (code_by coding) (plain xs 0 count)) result }
 {
+    if taker.is_quick() {
+        return taker.take_same(coding.code(0), coding.limit(0), count);
+    }
     let run = SameRun::new(coding.code(0), coding.limit(0), count);
     taker.take_run(run)
 }
@@ -115,6 +118,9 @@ fn take_same<T: RunTaker>(coding: Coding, count: u32, taker: T) -> T
     requires reference { coding.reference < 2 ^ 32 }
     ensures { (xs : _) → T.Taker.took taker (map (code_by coding) (plain xs 0 count)) result }
 {
+    if taker.is_quick() {
+        return taker.take_same(coding.code(0), coding.limit(0), count);
+    }
     let run = SameRun::new(coding.code(0), coding.limit(0), count);
     take_all(run, taker)
 }

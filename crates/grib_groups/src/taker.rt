@@ -1,10 +1,11 @@
 //! What takes codes on.
 
-ghost use Rattle.std.specs.Prelude.{◌≡◌, ℕ, ◌+◌, ◌<◌, ◌≤◌, true, List, [], ◌∷◌, ◌++◌, length};
+ghost use Rattle.std.specs.Prelude.{◌≡◌, ℕ, ◌+◌, ◌<◌, ◌≤◌, true, List, [], ◌∷◌, ◌++◌, length, replicate};
 ghost use Rattle.grib_base.specs.declared.code.Code.{Code};
 ghost use Rattle.grib_groups.specs.Taking.{number_of};
 
 use crate::CodeRun;
+use crate::code_run::SameRun;
 use grib_base::Code;
 
 /// What takes codes one after another. It is handed on by value, so that what it counts stays in
@@ -56,6 +57,29 @@ pub trait RunTaker: Taker + Sized {
         ensures { Self.took self (R.codes run) result }
     {
         take_each(run, self)
+    }
+
+    // It takes one code many times in a few steps.
+    ghost quick: { Self → Type 0 } = { λ _. Unit {0} };
+
+    /// Whether it takes one code many times in a few steps.
+    #[inline(always)]
+    fn is_quick(&self) -> bool
+        ensures { result ≡ true → quick self.now }
+    {
+        false
+    }
+
+    /// Takes one code, whose number is below a limit, `count` times, where it does so in a few steps.
+    #[inline(always)]
+    fn take_same(self, code: Code, limit: u64, count: u32) -> Self
+        requires below { number_of code < limit }
+        requires limit { limit ≤ Self.limit }
+        requires room { Self.room self count }
+        requires quick { quick self }
+        ensures { Self.took self (replicate count code) result }
+    {
+        take_each(SameRun::new(code, limit, count), self)
     }
 }
 
