@@ -1,6 +1,7 @@
 //! The values of a field, as their codes come.
 
-ghost use Rattle.std.specs.Prelude.{◌≡◌, ◌≤◌, ◌^◌, []};
+ghost use Rattle.std.specs.Prelude.{◌≡◌, ◌≤◌, ◌^◌, List, []};
+ghost use Rattle.grib_packing.specs.declared.column.Point.{Point as point};
 ghost use Rattle.grib_spatial.specs.Reach.{IsSteady};
 ghost use Rattle.grib_complex.specs.Tells.{PlainTook, Tells, ValuesTook, telling_of};
 ghost use Rattle.grib_complex.specs.Laws.{plain-none, plain-more, values-none, values-more};
@@ -81,6 +82,20 @@ impl<K: Keeper> RunTaker for Values<K> {
             place: place.wrapping_add(u64::from(count)),
             beyond,
         };
+        Values { teller, keeper }
+    }
+
+    ghost quick = { λ values. (points : List point) → K.kept values.keeper points values.keeper };
+
+    #[inline(always)]
+    fn is_quick(&self) -> bool {
+        !self.keeper.keeps()
+    }
+
+    #[inline(always)]
+    fn take_same(self, code: Code, _limit: u64, count: u32) -> Values<K> {
+        let Values { mut teller, keeper } = self;
+        teller.tell_same(code, count);
         Values { teller, keeper }
     }
 }
