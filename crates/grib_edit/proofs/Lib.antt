@@ -2,4 +2,3 @@ pub mod KeptBy
 pub mod Filtered
 pub mod Shelved
 pub mod Demoted
-pub mod Long

@@ -5,6 +5,7 @@ pub mod Bounded
 pub mod Changes
 pub mod Composed
 pub mod Cut
+pub mod Front
 pub mod Kept
 pub mod Numbers
 pub mod Puts
@@ -13,5 +14,6 @@ pub mod Stand
 pub mod Steps
 pub mod Within
 pub mod Lanes
+pub mod Long
 pub mod NewValues
 pub mod Told

@@ -1,5 +1,5 @@
 -- Sections of an accepted message as changes are made in them.
-use Rattle.std.proofs.Common.{◌≡◌, ◌≢◌, ℕ, ◌+◌, ◌-◌, ◌≤◌, true, false, not, ◌==◌, Some, None, unwrap_or, List, [], ◌∷◌, ◌++◌, length, take, drop, map, inl, inr, refl, sym, ap, ap₂, ◌∙◌, arith, subst, eq-eqb, append_assoc, append-nil, drop-drop, length-drop}
+use Rattle.std.proofs.Common.{◌≡◌, ◌≢◌, ℕ, ◌+◌, ◌-◌, ◌≤◌, true, false, not, ◌==◌, Some, None, unwrap_or, List, [], ◌∷◌, ◌++◌, length, take, drop, map, inl, inr, refl, sym, ap, ap₂, ◌∙◌, arith, subst, eq-eqb, append-nil, drop-drop, length-drop}
 use Rattle.std.specs.List.{concat}
 use Rattle.std.proofs.lemmas.Bool.{cases_eq}
 use Rattle.std.proofs.lemmas.List.{take_rest, drop_all}
@@ -103,14 +103,6 @@ put_is change number s p ys section place within is =
     ∙ sym (with_key_here change number s section ∙ ap (put_number change s) there)
 
 -- ---- sections as they are written
-
--- octets written, and others before what is left
-pub write_more : (out now t rest last whole : List ℕ) → now ≡ out ++ t → out ++ ((t ++ rest) ++ last) ≡ whole → now ++ (rest ++ last) ≡ whole
-write_more out now t rest last whole is e =
-    ap (λ (xs : List ℕ). xs ++ (rest ++ last)) is
-    ∙ append_assoc out t (rest ++ last)
-    ∙ ap (λ (xs : List ℕ). out ++ xs) (sym (append_assoc t rest last))
-    ∙ e
 
 -- the next section with its changes
 pub changed_next : (changes : List Change) (left rest : List Placed) (start number : ℕ) (s : List ℕ) → left ≡ placed_at start s ∷ rest → section_number s ≡ number

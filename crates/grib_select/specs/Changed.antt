@@ -1,7 +1,7 @@
 -- A message with other values of some keys: their octets change in Section 0, in Section 1 and in every
 -- Section 3 and 4, and no others.
-use Rattle.std.specs.Prelude.{◌≡◌, ℕ, ◌+◌, ◌-◌, ◌*◌, ◌^◌, Bool, cond, ◌&&◌, ◌==◌, nat_lt, is_none, Option, Some, None, unwrap_or, List, [], ◌∷◌, ◌++◌, length, take, drop, map, ℤ, pos, negsuc}
-use Rattle.std.specs.List.{concat, range_with_len}
+use Rattle.std.specs.Prelude.{◌≡◌, ℕ, ◌+◌, ◌-◌, ◌*◌, ◌^◌, ◌≤◌, Bool, cond, ◌&&◌, ◌==◌, nat_lt, is_none, Option, Some, None, unwrap_or, List, [], ◌∷◌, ◌++◌, length, take, drop, map, ℤ, pos, negsuc}
+use Rattle.std.specs.List.{concat, list_any, range_with_len}
 use Rattle.std.specs.Option.{option_map_or}
 use Rattle.grib_base.specs.Rows.{choose}
 use Rattle.grib_bits.specs.Encoding.{octets_of}
@@ -82,6 +82,30 @@ changed changes s = with_changes changes (section_number s) s
 abbrev pub with_keys : List ℕ → List Change → List ℕ
 with_keys message changes =
     with_changes changes 0 (take 16 message) ++ (concat (map (λ s. changed changes s.octets) (sections_of message)) ++ end_mark)
+
+-- ---- the octets that begin it
+
+-- whether the key of some change stands in the sections with this number
+abbrev pub has_change_in : List Change → ℕ → Bool
+has_change_in changes number = list_any (λ c. (row_of c.key).section == number) changes
+
+-- these octets and those of the message that come next, `end` in all
+abbrev pub up_to : ℕ → List ℕ → List ℕ → List ℕ
+up_to end message out = out ++ take (end - length out) (drop (length out) message)
+
+-- these octets and those of the message up to the end of this section, with its changes, if it has one
+abbrev pub with_section : List Change → List ℕ → List ℕ → ℕ → ℕ → List ℕ → List ℕ
+with_section changes message out start number s =
+    choose (has_change_in changes number) (λ _. up_to (start - 1) message out ++ with_changes changes number s) (λ _. out)
+
+-- The octets that begin the message with all changes. Those after them are as they were, and the reference time,
+-- which octets 13-19 of Section 1 state, is among them.
+pub record IsChangedFront (message : List ℕ) (changes : List Change) (front : List ℕ) : Type 0 where
+  pub joined : front ++ drop (length front) message ≡ with_keys message changes
+  pub within : length front ≤ length message
+  pub least : 16 + 19 ≤ length front
+
+-- ---- why it is not made
 
 -- the first of some fields that lacks the key
 abbrev pub first_without : List ℕ → Key → List ℕ → Option SetFault

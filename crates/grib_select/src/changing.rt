@@ -1,12 +1,12 @@
 //! Messages with other values of some keys.
 
-ghost use Rattle.std.specs.Prelude.{◌≡◌, ◌≢◌, ◌++◌, None, Some, All, IsTrue, IfOk, OnOk, MatchOption, MatchResult};
+ghost use Rattle.std.specs.Prelude.{◌≡◌, ◌≢◌, ◌+◌, ◌≤◌, ◌<◌, ◌++◌, length, None, Some, All, IsTrue, IfOk, OnOk, MatchOption, MatchResult};
 ghost use Rattle.grib_base.specs.declared.fault.Fault.{Fault};
 ghost use Rattle.grib2_sections.specs.Frame.{End, Fails, Next, step_from, position_after};
 ghost use Rattle.grib_keys.specs.Keys.{can_set};
 ghost use Rattle.grib_select.specs.declared.changing.SetFault.TheVariants.{Memory};
 ghost use Rattle.grib_select.specs.Values.{HasKeys};
-ghost use Rattle.grib_select.specs.Changed.{with_key, with_changes, with_keys, change_fault, set_fault, IsSetFault};
+ghost use Rattle.grib_select.specs.Changed.{with_key, with_changes, with_keys, has_change_in, up_to, with_section, IsChangedFront, change_fault, set_fault, IsSetFault};
 
 use crate::number::new_number;
 use crate::value::{key_value, place_in};
@@ -17,6 +17,9 @@ use grib2_message::Message;
 use grib2_sections::Frame;
 use std::alloc::{AllocError, Global};
 use thiserror::Error;
+
+/// Section 0, and Section 1 up to the end of the reference time.
+const REFERENCE_TIME_END: usize = 16 + 19;
 
 /// Why no value of a key was changed. Fields count from 1.
 #[derive(Clone, Copy, Debug, PartialEq, Eq, Error)]
@@ -58,8 +61,31 @@ pub fn set_keys(
         × (octets.items ≡ with_keys message.now changes.now))
         (IsSetFault (set_fault message.now changes.now)) }
 {
+    let octets = message.octets();
+    let mut out = changed_front(alloc, message, changes)?;
+    append_up_to(octets, octets.len(), &mut out)?;
+    Ok(out)
+}
+
+/// The octets that begin the message with other values of some keys, up to the end of the last section with
+/// one of the keys, and of the reference time at least. Those after them are as in the message.
+///
+/// # Errors
+///
+/// As those of [`set_keys`].
+pub fn changed_front(
+    alloc: Global,
+    message: &Message<'_>,
+    changes: &[Change],
+) -> Result<Vec<u8>, SetFault>
+    requires { All (λ c. IsTrue (can_set c.key)) changes.now }
+    ensures { MatchResult result
+        (λ front. (set_fault message.now changes.now ≡ None)
+        × IsChangedFront message.now changes.now front.items)
+        (IsSetFault (set_fault message.now changes.now)) }
+{
     check_changes(message, changes)?;
-    Ok(write_changed(alloc, message, changes)?)
+    Ok(write_front(alloc, message, changes)?)
 }
 
 /// Refuses the first change at fault.
@@ -90,25 +116,25 @@ fn check_change(message: &Message<'_>, change: &Change) -> Result<(), SetFault>
     Ok(())
 }
 
-/// The octets of the message with these changes, which can be made.
-fn write_changed(
+/// The octets that begin the message with these changes. There is room for all of its octets.
+fn write_front(
     alloc: Global,
     message: &Message<'_>,
     changes: &[Change],
 ) -> Result<Vec<u8>, AllocError>
-    requires settable { All (λ c. IsTrue (can_set c.key)) changes.now }
-    requires fit { set_fault message.now changes.now ≡ None }
-    ensures { IfOk result (λ octets. octets.items ≡ with_keys message.now changes.now) }
+    requires { All (λ c. IsTrue (can_set c.key)) changes.now }
+    ensures { IfOk result (λ front. IsChangedFront message.now changes.now front.items) }
 {
     let octets = message.octets();
-    let mut out = Vec::with_capacity(alloc, octets.len())?;
-    append_changed(&octets[..16], 0, changes, &mut out)?;
+    let mut front = Vec::with_capacity(alloc, octets.len())?;
+    append_changed(&octets[..16], 0, changes, &mut front)?;
     let mut frame = Frame::new(message.length());
     while let Some(section) = next_section(&mut frame, octets) {
-        append_changed(section.octets, section.number, changes, &mut out)?;
+        append_section(octets, &section, changes, &mut front)?;
     }
-    out.extend_from_slice(b"7777")?;
-    Ok(out)
+    let end = front.len().max(REFERENCE_TIME_END);
+    append_up_to(octets, end, &mut front)?;
+    Ok(front)
 }
 
 /// The next section of a message of which no row refuses a section, or nothing at its end mark.
@@ -123,6 +149,48 @@ fn next_section<'a>(frame: &mut Frame, octets: &'a [u8]) -> Option<Section<'a>>
         unreachable!();
     };
     section
+}
+
+/// Appends a section with these changes, after the octets before it, if a key of some change stands in it.
+fn append_section(
+    octets: &[u8],
+    section: &Section<'_>,
+    changes: &[Change],
+    out: &mut Vec<u8>,
+) -> Result<(), AllocError>
+    requires settable { All (λ c. IsTrue (can_set c.key)) changes.now }
+    requires keys { HasKeys section.now.number section.now.octets.now }
+    requires behind { length out.old.items < section.now.start }
+    requires there { section.now.start ≤ length octets.now + 1 }
+    ensures { OnOk result (out.new.items
+        ≡ with_section changes.now octets.now out.old.items section.now.start section.now.number section.now.octets.now) }
+{
+    if has_change(changes, section.number) {
+        append_up_to(octets, section.start as usize - 1, out)?;
+        append_changed(section.octets, section.number, changes, out)?;
+    }
+    Ok(())
+}
+
+/// Whether the key of some change stands in the sections with this number.
+fn has_change(changes: &[Change], number: u8) -> bool
+    ensures { result ≡ has_change_in changes.now number }
+{
+    for change in changes {
+        if change.key.row().section == number {
+            return true;
+        }
+    }
+    false
+}
+
+/// Appends the octets that come next, until there are `end` of them.
+fn append_up_to(octets: &[u8], end: usize, out: &mut Vec<u8>) -> Result<(), AllocError>
+    requires more { length out.old.items ≤ end }
+    requires there { end ≤ length octets.now }
+    ensures { OnOk result (out.new.items ≡ up_to end octets.now out.old.items) }
+{
+    out.extend_from_slice(&octets[out.len()..end])
 }
 
 /// Appends a section with this number with these changes.

@@ -9,7 +9,7 @@ mod matching;
 mod number;
 mod value;
 
-pub use changing::{SetFault, set_keys};
+pub use changing::{SetFault, changed_front, set_keys};
 pub use cutting::single;
 pub use grib_keys::{Change, Choice, Choices, Key, Test, Value, Wanted};
 pub use matching::matches;
