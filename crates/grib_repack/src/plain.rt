@@ -1,9 +1,10 @@
 //! Simple packing of fields.
 
 ghost use Rattle.std.specs.Prelude.{◌≤◌};
+ghost use Rattle.grib_packing.specs.Representation.{Spelled};
 ghost use Rattle.grib_packing.specs.Misfits.{ToSimple};
 ghost use Rattle.grib_packing.specs.Written.{IsPacked};
-ghost use Rattle.grib2_message.specs.Fields.{field_count, column_of};
+ghost use Rattle.grib2_message.specs.Fields.{field_count, part_octets, column_of};
 ghost use Rattle.grib_repack.specs.Repacked.{kind_of};
 
 use grib_packing::{PackFault, Packed, Packing, Simple, numbers_of};
@@ -56,7 +57,7 @@ fn pack_values(
     ensures { IsPacked ToSimple (column_of message.now field) (kind_of message.now field) result }
 {
     let seen = message.take_values(alloc, field, Seen::none())?;
-    if seen.greatest > MOST {
+    if seen.greatest > MOST || seen.present < simple.values {
         let column = message.column(alloc, field)?;
         return SimplePacking.pack(alloc, &column, simple.kind);
     }
