@@ -9,3 +9,4 @@ pub mod Packing
 pub mod Kept
 pub mod Back
 pub mod Simply
+pub mod Values

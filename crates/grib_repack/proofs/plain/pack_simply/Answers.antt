@@ -1,8 +1,7 @@
-use Rattle.std.proofs.Common.{◌≡◌, ℕ, Bool, List, length, map, sym, ap, ◌∙◌, refl, Ok, arith, subst, subst₂}
+use Rattle.std.proofs.Common.{◌≡◌, ℕ, Bool, List, length, map, sym, ap, ◌∙◌, refl, Ok, arith, subst}
 use Rattle.grib_base.specs.declared.profile.Profile.TheVariants.{Open}
 use Rattle.grib2_grids.specs.Grid.{grid_points}
 use Rattle.grib_packing.specs.Column.{points_with_mask}
-use Rattle.grib_packing.specs.declared.column.Column.{Column}
 use Rattle.grib_packing.specs.Misfits.{ToSimple}
 use Rattle.grib_packing.specs.Packing.{packing_template}
 use Rattle.grib_packing.specs.Representation.{Spelled}
@@ -12,7 +11,6 @@ use Rattle.grib_simple.proofs.InPlace.{plain_point}
 use Rattle.grib2_message.specs.Fields.{part_octets, field_mask, column_of}
 use Rattle.grib2_message.proofs.Masks.{points_bounds}
 use Rattle.grib_repack.specs.Repacked.{kind_of}
-use Rattle.grib_repack.proofs.Columns.{packable}
 use Rattle.grib_repack.proofs.Packing.{out_of_memory}
 use Rattle.grib_repack.proofs.Simply.{narrow_bits, numbers_in, numbers_read, room_read}
 use Rattle.grib_repack.proofs.plain.pack_simply.Goals as goal
@@ -48,21 +46,11 @@ pack_numbers-requires-clause-present c =
     let spelled = subst (Spelled c.numbers_of-simple.result) c.in-Some-Some.ensures.part.1 c.numbers_of-simple.ensures in
     c.in_ok-mask.ensures.values ∙ sym spelled.values
 
-pub returns-in_err-column : goal.returns-in_err-column
-returns-in_err-column c = out_of_memory ToSimple (column_of c.args.message.now c.args.field) (kind_of c.args.message.now c.args.field) c.from_residual.result c.from_residual.ensures.1
-
-pub pack-requires : goal.pack-requires
-pack-requires c =
-    let e = c.in_ok-column.ensures in
-    packable c.args.message.now c.args.field c.in_ok-column.column e.column e.passes e.some e.few
-
-pub returns-then-simple-ne0 : goal.returns-then-simple-ne0
-returns-then-simple-ne0 c =
-    let spelled = subst (Spelled c.numbers_of-simple.result) c.in-Some-Some.ensures.part.1 c.numbers_of-simple.ensures in
-    subst₂ (λ (column : Column) (kind : ℕ). IsPacked ToSimple column kind c.pack.result) c.in_ok-column.ensures.column spelled.kind c.pack.ensures
+pub pack_values-requires-clause-spelled : goal.pack_values-requires-clause-spelled
+pack_values-requires-clause-spelled c = subst (Spelled c.numbers_of-simple.result) c.in-Some-Some.ensures.part.1 c.numbers_of-simple.ensures
 
 pub returns-in_err-mask : goal.returns-in_err-mask
-returns-in_err-mask c = out_of_memory ToSimple (column_of c.args.message.now c.args.field) (kind_of c.args.message.now c.args.field) c.from_residual-in_err-mask.result c.from_residual-in_err-mask.ensures.1
+returns-in_err-mask c = out_of_memory ToSimple (column_of c.args.message.now c.args.field) (kind_of c.args.message.now c.args.field) c.from_residual.result c.from_residual.ensures.1
 
 pub returns-in_err-packed : goal.returns-in_err-packed
 returns-in_err-packed c = out_of_memory ToSimple (column_of c.args.message.now c.args.field) (kind_of c.args.message.now c.args.field) c.from_residual-in_err-packed.result c.from_residual-in_err-packed.ensures.1

@@ -1,0 +1,2 @@
+mod Skipped
+pub mod Fits

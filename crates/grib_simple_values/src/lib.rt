@@ -1,0 +1,13 @@
+//! Simple packing of values as they come: template 5.0, and no column is made.
+#![tactic(auto)]
+
+mod bitmap;
+mod numbers;
+mod sections;
+mod seen;
+mod writing;
+
+pub use bitmap::mask_section;
+pub use numbers::NumberWriter;
+pub use sections::pack_written;
+pub use seen::Seen;
