@@ -21,6 +21,9 @@ use thiserror::Error;
 /// Section 0, and Section 1 up to the end of the reference time.
 const REFERENCE_TIME_END: usize = 16 + 19;
 
+/// Room for the octets of Sections 0 to 4 as most messages have them.
+const FRONT_ROOM: usize = 256;
+
 /// Why no value of a key was changed. Fields count from 1.
 #[derive(Clone, Copy, Debug, PartialEq, Eq, Error)]
 pub enum SetFault {
@@ -116,7 +119,7 @@ fn check_change(message: &Message<'_>, change: &Change) -> Result<(), SetFault>
     Ok(())
 }
 
-/// The octets that begin the message with these changes. There is room for all of its octets.
+/// The octets that begin the message with these changes.
 fn write_front(
     alloc: Global,
     message: &Message<'_>,
@@ -126,7 +129,7 @@ fn write_front(
     ensures { IfOk result (λ front. IsChangedFront message.now changes.now front.items) }
 {
     let octets = message.octets();
-    let mut front = Vec::with_capacity(alloc, octets.len())?;
+    let mut front = Vec::with_capacity(alloc, FRONT_ROOM)?;
     append_changed(&octets[..16], 0, changes, &mut front)?;
     let mut frame = Frame::new(message.length());
     while let Some(section) = next_section(&mut frame, octets) {
