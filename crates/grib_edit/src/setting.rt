@@ -9,7 +9,7 @@ use crate::dated::write_dated;
 use grib_command::Answered;
 use grib_dates::{Dates, is_valid_time2};
 use grib_io::Sink;
-use grib_select::{Change, SetFault, set_keys};
+use grib_select::{Change, SetFault, changed_front};
 use grib_stream::Cause;
 use grib2_message::Message;
 use std::alloc::Global;
@@ -32,12 +32,12 @@ impl Changer for Setting<'_> {
     ghost lawful = { λ setting. set_lawful setting.dates setting.changes.now setting.changes_stand };
 
     fn change<T: Sink>(&self, alloc: Global, message: &Message<'_>, output: &mut T) -> Answered {
-        // That the message is accepted bounds the changed one.
-        let _accepted = message.octets();
-        match set_keys(alloc, message, self.changes) {
+        let octets = message.octets();
+        match changed_front(alloc, message, self.changes) {
             Ok(changed) => {
-                let octets = changed.as_slice();
-                write_dated(self.dates, is_valid_time2(octets), octets, output)
+                let front = changed.as_slice();
+                let rest = &octets[front.len()..];
+                write_dated(self.dates, is_valid_time2(front), front, rest, output)
             }
             Err(fault) => unset(fault),
         }

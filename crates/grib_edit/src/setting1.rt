@@ -47,7 +47,7 @@ impl Writer for Setting1<'_> {
         match set_keys1(alloc, message, self.changes) {
             Ok(changed) => {
                 let octets = changed.as_slice();
-                write_dated(self.dates, is_valid_time1(octets), octets, output)
+                write_dated(self.dates, is_valid_time1(octets), octets, &[], output)
             }
             Err(fault) => unset1(fault),
         }

@@ -1,4 +1,4 @@
-use Rattle.std.proofs.Common.{◌≡◌, Bool, true, false, Some, None, refl, sym, ◌∙◌}
+use Rattle.std.proofs.Common.{◌≡◌, Bool, true, false, ◌++◌, Some, None, refl, sym, ◌∙◌}
 use Rattle.std.specs.Prelude.{is_some}
 use Rattle.grib_dates.specs.declared.rule.Dates.{Dates}
 use Rattle.grib_dates.specs.declared.rule.Dates.TheVariants.{Any, Valid}
@@ -21,10 +21,10 @@ no_date Valid false e = absurd (cc)
 
 pub returns-then-is_refused : goal.returns-then-is_refused
 returns-then-is_refused g c = λ m.
-    kept g.T.Sink.contents g.T.Sink.faults g.T.Sink.settled (Kept Date) (date_cause c.args.dates c.args.is_valid) m c.args.octets.now c.args.output.now
+    kept g.T.Sink.contents g.T.Sink.faults g.T.Sink.settled (Kept Date) (date_cause c.args.dates c.args.is_valid) m (c.args.front.now ++ c.args.rest.now) c.args.output.now
     (some_date c.args.dates c.args.is_valid (sym c.is_refused.ensures ∙ c.if-is_refused.true))
 
 pub returns : goal.returns
 returns g c = λ m.
-    by_octets g.T.Sink.contents g.T.Sink.faults g.T.Sink.settled c.write_counted.result c.written.result (date_cause c.args.dates c.args.is_valid) m c.args.octets.now c.args.octets.now _ _
-    c.written.ensures (no_date c.args.dates c.args.is_valid (sym c.is_refused.ensures ∙ c.if-is_refused.false)) refl c.write_counted.ensures.count c.write_counted.ensures.writes
+    by_octets g.T.Sink.contents g.T.Sink.faults g.T.Sink.settled c.write_both.result c.written.result (date_cause c.args.dates c.args.is_valid) m (c.args.front.now ++ c.args.rest.now) (c.args.front.now ++ c.args.rest.now) _ _
+    c.written.ensures (no_date c.args.dates c.args.is_valid (sym c.is_refused.ensures ∙ c.if-is_refused.false)) refl c.write_both.ensures.count c.write_both.ensures.writes

@@ -1,4 +1,4 @@
-use Rattle.std.proofs.Common.{◌≡◌, ℕ, ◌≤◌, Option, option_map, List, length, sym, ap, ap₂, ◌∙◌, subst, arith}
+use Rattle.std.proofs.Common.{◌≡◌, ℕ, ◌≤◌, Option, option_map, List, length, sym, ap, ap₂, ◌∙◌, subst, arith, append-nil}
 use Rattle.std.specs.Option.{option_or}
 use Rattle.grib1_sections.specs.declared.key.Key1.{Key1}
 use Rattle.grib1_select.specs.Changed.{with_keys1, set_fault1}
@@ -33,7 +33,7 @@ returns-in-Ok g c =
     let cause : date_cause dates c.is_valid_time1.result ≡ set1_cause dates changes m =
     ap (date_cause dates) (c.is_valid_time1.ensures ∙ ap is_valid_time1 octets) ∙ sym (ap (λ (f : Option Key1). option_or (option_map KeyRange1 f) date) c.in-Ok.ensures.0) in
     as_given g.T.Sink.contents g.T.Sink.faults g.T.Sink.settled c.write_dated.result number _ _ _ _
-    (ap₂ (λ (x : Option Cause) (xs : List ℕ). given_unless x number xs) (sym cause) (sym octets)) (c.write_dated.ensures number)
+    (ap₂ (λ (x : Option Cause) (xs : List ℕ). given_unless x number xs) (sym cause) (sym (append-nil c.as_slice-octets.result.now ∙ octets))) (c.write_dated.ensures number)
 
 pub returns-in-Err : goal.returns-in-Err
 returns-in-Err g c =
