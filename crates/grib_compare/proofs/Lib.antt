@@ -1,6 +1,7 @@
 pub mod Meanings
 pub mod Editions
 pub mod Columns
+pub mod ByWords
 pub mod Sections
 pub mod Counted
 pub mod Causes

@@ -1,4 +1,5 @@
 pub mod Fields
+pub mod Words
 pub mod Command
 pub mod Seen
 pub mod Lawful

@@ -9,6 +9,7 @@ mod octets;
 mod points;
 mod readable;
 mod stop;
+mod words;
 
 pub use comparing::Comparing;
 pub use comparison::Comparison;

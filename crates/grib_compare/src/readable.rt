@@ -1,6 +1,6 @@
 //! Messages whose values can be read, of either edition, and their fields side by side.
 
-ghost use Rattle.std.specs.Prelude.{◌≡◌, ◌≤◌, ◌<◌, ◌^◌, nat_abs, IfOk, MatchResult};
+ghost use Rattle.std.specs.Prelude.{◌≡◌, ◌≤◌, ◌<◌, ◌^◌, nat_abs, IfOk, IfSome, MatchResult};
 ghost use Rattle.grib_bits.specs.Binary32.{ieee_exponent};
 ghost use Rattle.grib_dyadic.specs.Meaning.{SameMeaning};
 ghost use Rattle.grib_dyadic.specs.Reference.{ieee, SameNumber};
@@ -15,6 +15,7 @@ ghost use Rattle.grib_compare.specs.Seen.{readable_octets, readable_field, point
 use crate::comparison::Comparison;
 use crate::octets::first_octet;
 use crate::points::FieldPoints;
+use crate::words::compare_words;
 use grib_dispatch::Held;
 use grib_dyadic::Dyadic;
 use grib1_sections::Message1;
@@ -174,9 +175,39 @@ impl<'a> Readable<'a> {
             ≡ definitions.by_points (definitions.meanings (readable_field self.now field))
             (definitions.meanings (readable_field other.now other_field)) Same) }
     {
+        if let Some(comparison) = self.compare_words(alloc, field, other, other_field)? {
+            return Ok(comparison);
+        }
         let here = self.points(alloc, field)?;
         let there = other.points(alloc, other_field)?;
         here.beside(alloc, &there)
+    }
+
+    /// What is said of them by the words of their points, where both messages are of edition 2 and these tell it.
+    fn compare_words(
+        &self,
+        alloc: Global,
+        field: u32,
+        other: &Readable<'_>,
+        other_field: u32,
+    ) -> Result<Option<Comparison>, AllocError>
+        requires first { 1 ≤ field }
+        requires last { field ≤ fields_of (readable_octets self.now) }
+        requires other_first { 1 ≤ other_field }
+        requires other_last { other_field ≤ fields_of (readable_octets other.now) }
+        ensures { IfOk result (λ found. IfSome found (λ comparison. comparison
+            ≡ definitions.by_points (definitions.meanings (readable_field self.now field))
+            (definitions.meanings (readable_field other.now other_field)) Same)) }
+    {
+        let Readable::Two(here) = self else {
+            return Ok(None);
+        };
+        let Readable::Two(there) = other else {
+            return Ok(None);
+        };
+        here.octets();
+        there.octets();
+        compare_words(alloc, here, field, there, other_field)
     }
 
     /// What is said of them by their Sections 1 to 4.

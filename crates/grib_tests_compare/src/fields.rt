@@ -3,8 +3,8 @@
 use crate::runs::{gives, run_beside};
 use grib_engine::{Cause, Kept, Outcome};
 use grib_samples::{
-    BINARY32_VALUES, FIRST_EDITION, FOUR_BINARY32, GRID, IDENTIFICATION, MIGRATED, NO_BITMAP,
-    PLAIN, PRODUCT, TWO_FIELDS, edited, message_of,
+    BINARY32_VALUES, FIRST_EDITION, FOUR_BINARY32, FOUR_NUMBERS, GRID, IDENTIFICATION, MIGRATED,
+    NO_BITMAP, PLAIN, PRODUCT, TWO_FIELDS, edited, message_of,
 };
 use grib_test_runs::{CALM, run_over};
 use std::alloc::{AllocError, Global};
@@ -34,6 +34,25 @@ fn differs(
     )
 }
 
+// A message of four numbers, whose Section 5 has these octets at some places, with this Section 7.
+fn four_numbers(
+    alloc: Global,
+    total: u64,
+    edits: &[(usize, u8)],
+    section7: &[u8],
+) -> Result<Vec<u8>, AllocError> {
+    let section5 = edited(alloc, FOUR_NUMBERS, edits)?;
+    let sections = [
+        IDENTIFICATION,
+        GRID,
+        PRODUCT,
+        section5.as_slice(),
+        NO_BITMAP,
+        section7,
+    ];
+    message_of(alloc, total, &sections)
+}
+
 #[test]
 fn editions_and_packings_may_differ(rt: HostRuntime) -> Result<(), Fail> {
     let alloc = rt.alloc();
@@ -58,6 +77,49 @@ fn the_first_point_that_differs(rt: HostRuntime) -> Result<(), Fail> {
     // The second of four points is missing on one side alone.
     let lines = "1.1 differs point 2\nfields 1 same 0 differ 1 only-input 0 only-file 1\n";
     assert!(rt; differs(alloc, "compare with=f", &PLAIN, &TWO_FIELDS, lines)?);
+    Ok(())
+}
+
+#[test]
+fn scale_factors_may_differ(rt: HostRuntime) -> Result<(), Fail> {
+    let alloc = rt.alloc();
+    // Where E is -4 in place of -3, twice the numbers stand for the same values: 0, 2, 4 and 510.
+    let numbers = b"\0\0\0\x0d\x07\0\0\0\x02\0\x04\x01\xfe";
+    let twice = four_numbers(alloc, 187, &[(17, 4), (20, 16)], numbers)?;
+    assert!(rt; are_same(alloc, &PLAIN, twice.as_slice())?);
+    let other = edited(alloc, twice.as_slice(), &[(183, 255)])?;
+    let lines = "1.1 differs point 4\nfields 1 same 0 differ 1 only-input 0 only-file 0\n";
+    assert!(rt; differs(alloc, "compare with=f", &PLAIN, other.as_slice(), lines)?);
+    Ok(())
+}
+
+#[test]
+fn numbers_of_32_bits_and_more(rt: HostRuntime) -> Result<(), Fail> {
+    let alloc = rt.alloc();
+    // 2 ^ 32 - 1 where the other field has no value.
+    let numbers = b"\0\0\0\x15\x07\0\0\0\0\xff\xff\xff\xff\0\0\0\x01\0\0\0\x02";
+    let most = four_numbers(alloc, 195, &[(20, 32)], numbers)?;
+    let lines = "1.1 differs point 2\nfields 1 same 0 differ 1 only-input 0 only-file 1\n";
+    assert!(rt; differs(alloc, "compare with=f", most.as_slice(), &TWO_FIELDS, lines)?);
+    // 0, 1, 2 ^ 32 + 5 and 255, and another centre.
+    let numbers = b"\0\0\0\x19\x07\0\0\0\0\0\0\0\0\0\x01\x01\0\0\0\x05\0\0\0\0\xff";
+    let one = four_numbers(alloc, 199, &[(20, 40)], numbers)?;
+    let same = edited(alloc, one.as_slice(), &[(22, 1)])?;
+    assert!(rt; are_same(alloc, one.as_slice(), same.as_slice())?);
+    // 2 ^ 33 + 5, and 5.
+    let lines = "1.1 differs point 3\nfields 1 same 0 differ 1 only-input 0 only-file 0\n";
+    for octet in [2, 0] {
+        let other = edited(alloc, one.as_slice(), &[(186, octet)])?;
+        assert!(rt;
+            differs(
+                alloc,
+                "compare with=f",
+                one.as_slice(),
+                other.as_slice(),
+                lines
+            )?
+        );
+    }
     Ok(())
 }
 
