@@ -1,18 +1,15 @@
 //! Fields side by side by the words of their points.
 
 ghost use Rattle.std.specs.Prelude.{◌≡◌, ◌≤◌, ◌^◌, ◌-◌, length, IfOk, IfSome};
-ghost use Rattle.grib_packing.specs.Entries.{entries_of};
-ghost use Rattle.grib_packing.specs.Packing.{value_count};
 ghost use Rattle.grib_packing.specs.Representation.{Spelled};
-ghost use Rattle.grib_complex.specs.KeptWords.{AreWords};
-ghost use Rattle.grib2_message.specs.Fields.{field_count, part_octets, column_of, meaning_of};
+ghost use Rattle.grib2_message.specs.Fields.{field_count, part_octets, meaning_of};
 ghost use Rattle.grib_compare.specs.declared.comparison.Comparison.TheVariants.{Same};
 ghost use Rattle.grib_compare.specs.Fields.{by_points, octet_from};
 ghost use Rattle.grib_compare.specs.Words.{by_words};
 
 use crate::comparison::Comparison;
-use grib_complex::PointWords;
 use grib_packing::{Simple, numbers_of};
+use grib_repack::point_words;
 use grib2_message::ReadableMessage;
 use std::alloc::{AllocError, Global};
 
@@ -94,61 +91,4 @@ fn first_word(left: &[u32], right: &[u32]) -> Option<u64>
         }
     }
     None
-}
-
-/// The words of a field's points, with the numbers of its Section 5.
-///
-/// # Errors
-///
-/// There is no memory for the words.
-fn point_words(
-    alloc: Global,
-    message: &ReadableMessage<'_>,
-    field: u32,
-    simple: &Simple,
-) -> Result<PointWords, AllocError>
-    requires first { 1 ≤ field }
-    requires last { field ≤ field_count message.now }
-    requires spelled { Spelled simple.now (part_octets message.now field 5) }
-    ensures words { IfOk result (AreWords (column_of message.now field).points) }
-    ensures some { IfOk result (λ kept. 1 ≤ length kept.words.items) }
-    ensures few { IfOk result (λ kept. length kept.words.items ≤ 33554432) }
-{
-    let kept = value_words(alloc, message, field, simple)?;
-    let mask = message.mask(alloc, field)?;
-    let all = kept.with_mask(alloc, &mask)?;
-    Ok(all)
-}
-
-/// The words of a field's values, with the numbers of its Section 5. Numbers of 1 to 31 bits in simple packing are read where
-/// they stand.
-///
-/// # Errors
-///
-/// There is no memory for the words.
-fn value_words(
-    alloc: Global,
-    message: &ReadableMessage<'_>,
-    field: u32,
-    simple: &Simple,
-) -> Result<PointWords, AllocError>
-    requires first { 1 ≤ field }
-    requires last { field ≤ field_count message.now }
-    requires spelled { Spelled simple.now (part_octets message.now field 5) }
-    ensures words { IfOk result (AreWords
-        (entries_of (part_octets message.now field 5) (part_octets message.now field 7))) }
-    ensures count { IfOk result (λ _. length (entries_of (part_octets message.now field 5) (part_octets message.now field 7))
-        ≡ value_count (part_octets message.now field 5)) }
-{
-    if simple.template == 0 && 1 <= simple.bits && simple.bits <= 31 {
-        let Some(section7) = message.part(field, 7) else {
-            unreachable!();
-        };
-        let octets = &section7.octets[5..];
-        let kept = PointWords::of_numbers(alloc, octets, u32::from(simple.bits), simple.values)?;
-        return Ok(kept);
-    }
-    let none = PointWords::start(alloc, simple.values)?;
-    let kept = message.take_values(alloc, field, none)?;
-    Ok(kept)
 }

@@ -51,12 +51,12 @@ pub(crate) fn pack_in_groups(
     Ok(packed)
 }
 
-/// The words of a field's points, with the numbers of its Section 5.
+/// The words of the points of a field, counted from 1, with the numbers of its Section 5: 4 octets a point, and no column.
 ///
 /// # Errors
 ///
 /// There is no memory for the words.
-fn point_words(
+pub fn point_words(
     alloc: Global,
     message: &ReadableMessage<'_>,
     field: u32,

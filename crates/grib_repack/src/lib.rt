@@ -13,6 +13,7 @@ mod target;
 
 pub use fault::RepackFault;
 pub use field::pack_field;
+pub use groups::point_words;
 pub use lengths::{kept_length, packed_length};
 pub use plain::pack_simply;
 pub use repacking::repack;
