@@ -1,6 +1,6 @@
 //! The fields of a message on a shelf, each as a message of its own.
 
-ghost use Rattle.std.specs.Prelude.{◌≡◌, ℕ, ◌+◌, ◌*◌, ◌≤◌, ◌^◌, string_bytes, length, IfOk};
+ghost use Rattle.std.specs.Prelude.{◌≡◌, ℕ, ◌+◌, ◌*◌, ◌≤◌, ◌^◌, string_bytes, length, IfOk, MatchOption};
 ghost use Rattle.grib_io.specs.Outside.{CountsStops};
 ghost use Rattle.grib2_message.specs.Fields.{field_count};
 ghost use Rattle.grib2_message.specs.Message.{IsAnyMessage};
@@ -97,28 +97,11 @@ fn put_whole<H: Shelf>(
         (octets_within (parts1_of name.now before message.now)))
         shelf.old shelf.new }
 {
-    match put_message1(alloc, name, before, message, shelf) {
-        Ok(()) => Answered::Whole(message.length()),
+    match put_numbered(alloc, name, before + 1, message.octets(), shelf) {
+        Ok(written) => Answered::Whole(written),
         Err(Stop::Failed) => Answered::ShelfFault,
         Err(Stop::Memory) => Answered::Memory,
     }
-}
-
-/// Puts a message of edition 1. Without memory no name is made.
-fn put_message1<H: Shelf>(
-    alloc: Global,
-    name: &Name,
-    before: u64,
-    message: &Message1<'_>,
-    shelf: &mut H,
-) -> Result<(), Stop>
-    requires { before ≤ 2 ^ 41 }
-    ensures shelved { Shelves result (H.contents shelf.old) (H.contents shelf.new)
-        (puts (part (parts.part_name name.now (before + 1)) message.now)) }
-    ensures counted { CountsStops result (H.faults shelf.old) (H.faults shelf.new) }
-{
-    let text = part_name(alloc, name, before + 1)?;
-    put(text.as_str(), message.octets(), shelf)
 }
 
 /// Puts each field of a message on the shelf, as a message of its own under the name with the number of the
@@ -168,7 +151,8 @@ fn put_fields<H: Shelf>(
     Ok(written)
 }
 
-/// Puts a field, counted from 1, and answers how many octets it has. Without memory no name is made.
+/// Puts a field, counted from 1, and answers how many octets it has. The only field of a message is put from where it
+/// stands. Without memory no name is made.
 fn put_field<H: Shelf>(
     alloc: Global,
     name: &Name,
@@ -187,9 +171,43 @@ fn put_field<H: Shelf>(
     ensures few { IfOk result (λ written. written ≤ MOST_OCTETS) }
     ensures counted { CountsStops result (H.faults shelf.old) (H.faults shelf.new) }
 {
+    let number = before + u64::from(field);
+    if let Some(octets) = sole(message, field) {
+        return put_numbered(alloc, name, number, octets, shelf);
+    }
     let octets = single(alloc, message, field)?;
-    let text = part_name(alloc, name, before + u64::from(field))?;
-    put(text.as_str(), octets.as_slice(), shelf)?;
+    put_numbered(alloc, name, number, octets.as_slice(), shelf)
+}
+
+/// The octets of a field, counted from 1, that is the only one of its message. They are the message as it stands.
+fn sole<'a>(message: &Message<'a>, field: u32) -> Option<&'a [u8]>
+    requires first { 1 ≤ field }
+    requires last { field ≤ field_count message.now }
+    ensures { MatchOption result (2 ≤ field_count message.now)
+        (λ octets. octets.now ≡ single_of message.now field) }
+{
+    let octets = message.octets();
+    if message.fields() == 1 {
+        return Some(octets);
+    }
+    None
+}
+
+/// Puts these octets under the name with this number, and answers how many they are. Without memory no name is made.
+fn put_numbered<H: Shelf>(
+    alloc: Global,
+    name: &Name,
+    number: u64,
+    octets: &[u8],
+    shelf: &mut H,
+) -> Result<u64, Stop>
+    ensures shelved { Shelves result (H.contents shelf.old) (H.contents shelf.new)
+        (puts (part (parts.part_name name.now number) octets.now)) }
+    ensures written { IfOk result (λ written. written ≡ length octets.now) }
+    ensures counted { CountsStops result (H.faults shelf.old) (H.faults shelf.new) }
+{
+    let text = part_name(alloc, name, number)?;
+    put(text.as_str(), octets, shelf)?;
     Ok(octets.len() as u64)
 }
 

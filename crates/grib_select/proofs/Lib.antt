@@ -10,6 +10,7 @@ pub mod Kept
 pub mod Numbers
 pub mod Puts
 pub mod Sections
+pub mod Sole
 pub mod Stand
 pub mod Steps
 pub mod Within
