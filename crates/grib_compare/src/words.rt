@@ -1,6 +1,6 @@
 //! Fields side by side by the words of their points.
 
-ghost use Rattle.std.specs.Prelude.{◌≡◌, ◌≤◌, ◌^◌, ◌-◌, length, IfOk, IfSome};
+ghost use Rattle.std.specs.Prelude.{◌≡◌, ◌≤◌, length, IfOk, IfSome};
 ghost use Rattle.grib_packing.specs.Representation.{Spelled};
 ghost use Rattle.grib2_message.specs.Fields.{field_count, part_octets, meaning_of};
 ghost use Rattle.grib_compare.specs.declared.comparison.Comparison.TheVariants.{Same};
