@@ -159,7 +159,7 @@ impl<'a> Readable<'a> {
         }
     }
 
-    /// What is said of them by their points. The points of both are held at a time.
+    /// What is said of them by their points. The points of both are held at a time, or their words.
     fn compare_points(
         &self,
         alloc: Global,

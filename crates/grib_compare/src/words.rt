@@ -1,6 +1,6 @@
 //! Fields side by side by the words of their points.
 
-ghost use Rattle.std.specs.Prelude.{◌≡◌, ◌≤◌, ◌^◌, ◌-◌, length, IfOk, IfSome};
+ghost use Rattle.std.specs.Prelude.{◌≡◌, ◌≤◌, length, IfOk, IfSome};
 ghost use Rattle.grib_packing.specs.Representation.{Spelled};
 ghost use Rattle.grib2_message.specs.Fields.{field_count, part_octets, meaning_of};
 ghost use Rattle.grib_compare.specs.declared.comparison.Comparison.TheVariants.{Same};
@@ -13,11 +13,11 @@ use grib_repack::point_words;
 use grib2_message::ReadableMessage;
 use std::alloc::{AllocError, Global};
 
-/// The greatest number whose word is that of no missing point.
+/// The greatest number whose word is not that of a missing point.
 const MOST: u64 = (1 << 32) - 3;
 
 /// What is said of two fields, counted from 1, by their points alone, where both give them values by the same R, E and D
-/// and each point has a word of its own; else nothing.
+/// and each point has a word of its own; else nothing. Packed numbers of more than 32 bits are not looked at.
 ///
 /// # Errors
 ///
@@ -39,6 +39,9 @@ pub(crate) fn compare_words(
     let left = representation(here, field);
     let right = representation(there, other_field);
     if left.reference != right.reference || left.e != right.e || left.d != right.d {
+        return Ok(None);
+    }
+    if left.bits > 32 || right.bits > 32 {
         return Ok(None);
     }
     let here = point_words(alloc, here, field, &left)?;
