@@ -10,7 +10,7 @@ use Rattle.grib_packing.specs.Entries.{data_fault, packing_fault}
 use Rattle.grib_packing.specs.Laws.{UnpackTo}
 use Rattle.grib_packing.specs.Misfits.{Target, template_of}
 use Rattle.grib_packing.specs.Packed.{Packed as HasPacked}
-use Rattle.grib_packing.specs.Packing.{value_count}
+use Rattle.grib_packing.specs.Packing.{packing_template, value_count}
 use Rattle.grib_packing.specs.Unpacked.{IsUnpacked, MayBeUnpacked}
 use Rattle.grib_packing.specs.Written.{MayBePacked}
 use Rattle.grib2_message.proofs.Masks.{long_alone, present_of}

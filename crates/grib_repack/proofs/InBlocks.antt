@@ -1,5 +1,5 @@
 -- The numbers of accepted blocks are within the range of the columns that are packed.
-use Rattle.std.proofs.Common.{◌≡◌, ◌⊎◌, inl, inr, ℕ, ◌%◌, ◌^◌, ◌≤◌, ◌==◌, ◌||◌, ◌&&◌, Bool, true, false, not, Option, Some, None, List, [], ◌∷◌, length, drop, map, All, nat_lt, refl, sym, ap, ◌∙◌, arith, le-ltb, eqb-true, pow_mono}
+use Rattle.std.proofs.Common.{◌≡◌, ◌⊎◌, inl, inr, ℕ, ◌+◌, ◌-◌, ◌%◌, ◌^◌, ◌<◌, ◌≤◌, ◌==◌, ◌||◌, ◌&&◌, Bool, true, false, not, Option, Some, None, List, [], ◌∷◌, length, drop, map, replicate, All, nat_lt, refl, sym, ap, ◌∙◌, arith, subst, le-ltb, eqb-true, pow_mono}
 use Rattle.std.proofs.lemmas.Bool.{not-false}
 use Rattle.std.proofs.lemmas.Bool.Decides.{nat_tests}
 use Rattle.std.proofs.lemmas.List.Elements.{All-head, All-tail}
@@ -11,7 +11,7 @@ use Rattle.grib_coding.specs.declared.fault.BlockFault.{BlockFault}
 use Rattle.grib_coding.specs.declared.fault.BlockFault.TheVariants.{Short, Block, Value}
 use Rattle.grib_coding.specs.Coding.{greatest}
 use Rattle.grib_block_reading.proofs.Within.{told_within}
-use Rattle.grib_packing.specs.Coded.{block_refusal, coded_numbers, coded_rows, coding_of, decoded_of, is_block, is_coded, point_of}
+use Rattle.grib_packing.specs.Coded.{block_refusal, coded_data_fault, coded_numbers, coded_rows, coding_of, decoded_of, are_flags_refused, is_block, is_coded, point_of}
 use Rattle.grib_packing.specs.Entries.{data_fault, is_out_of_range, packing_fault}
 use Rattle.grib_packing.specs.Packing.{packing_template, bit_width, value_count}
 use Rattle.grib_packing.proofs.Packings.{data_fault-coded, most-coded, packing_fault-coded, packing_passes, packing_shared}

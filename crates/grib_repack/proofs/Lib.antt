@@ -9,4 +9,4 @@ pub mod Packing
 pub mod Kept
 pub mod Back
 pub mod Simply
-pub mod Values
+pub mod AsTheyCome

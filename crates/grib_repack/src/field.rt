@@ -18,8 +18,8 @@ use std::alloc::Global;
 
 /// Sections 5, 6 and 7 of one field, counted from 1, in the packing of a target; none where a quick look at groups shows
 /// that they have `below` octets or more. A caller that has the column of the field hands it in, so that it is not made
-/// again. A field in simple packing is packed simply from its numbers where they stand. For groups without differences
-/// 4 octets are taken for each point in place of a column.
+/// again. A field in simple packing is packed simply from its numbers where they stand, another one as its values come. For
+/// groups without differences 4 octets are taken for each point in place of a column.
 ///
 /// # Errors
 ///

@@ -10,6 +10,7 @@ mod lengths;
 mod plain;
 mod repacking;
 mod target;
+mod values;
 
 pub use fault::RepackFault;
 pub use field::pack_field;

@@ -1,23 +1,20 @@
 //! Simple packing of fields.
 
 ghost use Rattle.std.specs.Prelude.{◌≤◌};
-ghost use Rattle.grib_packing.specs.Representation.{Spelled};
 ghost use Rattle.grib_packing.specs.Misfits.{ToSimple};
 ghost use Rattle.grib_packing.specs.Written.{IsPacked};
-ghost use Rattle.grib2_message.specs.Fields.{field_count, part_octets, column_of};
+ghost use Rattle.grib2_message.specs.Fields.{field_count, column_of};
 ghost use Rattle.grib_repack.specs.Repacked.{kind_of};
 
-use grib_packing::{PackFault, Packed, Packing, Simple, numbers_of};
-use grib_simple::{SimplePacking, pack_numbers};
-use grib_simple_values::{NumberWriter, Seen, mask_section, pack_written};
+use crate::values::pack_values;
+use grib_packing::{PackFault, Packed, numbers_of};
+use grib_simple::pack_numbers;
 use grib2_message::ReadableMessage;
 use std::alloc::Global;
 
-/// The greatest number of simple packing, which has 48 bits at most.
-const MOST: u64 = (1 << 48) - 1;
-
 /// Sections 5, 6 and 7 of one field, counted from 1, in simple packing. A field that stands in simple packing
-/// is written from its numbers where they stand, and no column is made of it.
+/// is written from its numbers where they stand, another one as its values come. A column is made only where a value has
+/// no place in simple packing, or values are missing of a field that has a bitmap too.
 ///
 /// # Errors
 ///
@@ -41,30 +38,5 @@ pub fn pack_simply(
     }
     let mask = message.mask(alloc, field)?;
     let packed = pack_numbers(alloc, &simple, &section7.octets[5..], &mask)?;
-    Ok(packed)
-}
-
-/// Sections 5, 6 and 7 of one field that is not in simple packing.
-fn pack_values(
-    alloc: Global,
-    message: &ReadableMessage<'_>,
-    field: u32,
-    simple: &Simple,
-) -> Result<Packed, PackFault>
-    requires first { 1 ≤ field }
-    requires last { field ≤ field_count message.now }
-    requires spelled { Spelled simple.now (part_octets message.now field 5) }
-    ensures { IsPacked ToSimple (column_of message.now field) (kind_of message.now field) result }
-{
-    let seen = message.take_values(alloc, field, Seen::none())?;
-    if seen.greatest > MOST || seen.present < simple.values {
-        let column = message.column(alloc, field)?;
-        return SimplePacking.pack(alloc, &column, simple.kind);
-    }
-    let mask = message.mask(alloc, field)?;
-    let none = NumberWriter::start(alloc, simple.values, seen.greatest)?;
-    let written = message.take_values(alloc, field, none)?;
-    let section6 = mask_section(alloc, &mask, simple.values)?;
-    let packed = pack_written(alloc, simple, simple.values, section6, written)?;
     Ok(packed)
 }

@@ -20,8 +20,9 @@ use std::alloc::Global;
 
 /// The message with the same fields, packed to the target: Sections 5, 6 and 7 of each field are written
 /// anew, and all other octets but the total length are as before. It holds the message, the new sections, and one
-/// column at a time; none of a field that stands in simple packing and stays in it, and 4 octets for each point
-/// in place of a column where a field is packed in groups without differences. The new sections that it holds have
+/// column at a time; none where a field is packed simply, unless the first misfit is named or values are missing of a
+/// field with a bitmap in another packing; and 4 octets for each point in place of a column where a field is packed in
+/// groups without differences. The new sections that it holds have
 /// 268,435,456 octets at most, besides those of the last field: once the message is too long, the later fields are
 /// packed one at a time, for their misfits and lengths alone.
 ///

@@ -8,10 +8,11 @@ use Rattle.grib_packing.specs.declared.column.Point.{Point}
 use Rattle.grib_packing.specs.declared.column.Point.TheVariants.{Scaled, Missing, Missing2}
 use Rattle.grib_packing.specs.Column.{points_with_mask}
 use Rattle.grib_packing.specs.Groupings.{greatest}
-use Rattle.grib_packing.specs.Misfits.{ToSimple, SecondaryMissing, OutOfRange, first_misfit, first_of, is_missing2, is_scaled_outside}
+use Rattle.grib_packing.specs.Misfits.{ToSimple, SecondaryMissing, OutOfRange, first_misfit, first_of, is_missing, is_missing2, is_scaled_outside}
 use Rattle.grib_packing.specs.Packed.{present_bits, simple_numbers}
 use Rattle.grib_simple.proofs.Fitting.{few_numbers}
-use Rattle.grib_simple_values.specs.Kept.{reach_of}
+use Rattle.grib_simple_values.specs.declared.seen.Seen.{Seen}
+use Rattle.grib_simple_values.specs.Kept.{IsSeen, SeenKept, reach_of}
 
 abbrev reach : List Point → ℕ
 reach points = greatest (map reach_of points)
@@ -88,3 +89,21 @@ reach_is (Scaled (pos n) ∷ entries) small =
 reach_is (Scaled (negsuc n) ∷ entries) small = absurd (omega (arith, small))
 reach_is (Missing ∷ entries) small = let rest = reach_is entries (omega (arith, small)) in omega (arith, rest)
 reach_is (Missing2 ∷ entries) small = absurd (omega (arith, small))
+
+-- where a value has no number, it is missing
+pub some_missing : (entries : List Point) → reach entries < 2 ^ 48 → length (simple_numbers entries) < length entries → list_any is_missing entries ≡ true
+some_missing [] small less = absurd (omega (arith, less))
+some_missing (Scaled x ∷ entries) small less = some_missing entries (omega (arith, small)) (omega (arith, less))
+some_missing (Missing ∷ entries) small less = refl
+some_missing (Missing2 ∷ entries) small less = absurd (omega (arith, small))
+
+-- ---- what is seen
+
+pub all_seen : (points : List Point) (start seen : Seen) → IsSeen [] start → SeenKept start points seen → IsSeen points seen
+all_seen points start seen none kept = record {
+  greatest_is = omega (arith, kept.reach, none.greatest_is);
+  present_is = λ few.
+      let nothing = none.present_is (omega arith) in
+      let counted = kept.counted (omega (arith, nothing, few, few_numbers points)) in
+      omega (arith, counted, nothing);
+}

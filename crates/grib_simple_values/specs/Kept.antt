@@ -16,6 +16,11 @@ reach_of (Scaled x) = cond (int_lt x (pos 0)) (2 ^ 64 - 1) (nat_abs x)
 reach_of Missing = 0
 reach_of Missing2 = 2 ^ 64 - 1
 
+-- the greatest number of these points, and how many of them have one
+pub record IsSeen (points : List Point) (seen : Seen) : Type 0 where
+  pub greatest_is : seen.greatest ≡ greatest (map reach_of points)
+  pub present_is : length points < 2 ^ 32 → seen.present ≡ length (simple_numbers points)
+
 -- the greatest of the points that came, and how many of them have a number
 pub record SeenKept (before : Seen) (added : List Point) (after : Seen) : Type 0 where
   pub reach : after.greatest ≡ max before.greatest (greatest (map reach_of added))

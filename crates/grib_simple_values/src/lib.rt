@@ -2,12 +2,17 @@
 #![tactic(auto)]
 
 mod bitmap;
+mod bitmap_writer;
+mod marked;
+mod marking;
 mod numbers;
 mod sections;
 mod seen;
 mod writing;
 
 pub use bitmap::mask_section;
+pub use bitmap_writer::BitmapWriter;
+pub use marked::MarkedWriter;
 pub use numbers::NumberWriter;
 pub use sections::pack_written;
 pub use seen::Seen;

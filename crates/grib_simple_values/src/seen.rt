@@ -1,8 +1,8 @@
 //! What is seen of values before they are packed simply.
 
-ghost use Rattle.std.specs.Prelude.{◌≡◌};
+ghost use Rattle.std.specs.Prelude.{◌≡◌, []};
 ghost use Rattle.grib_packing.specs.declared.column.Point.TheVariants.{Scaled};
-ghost use Rattle.grib_simple_values.specs.Kept.{SeenKept, reach_of, seen-none, seen-more};
+ghost use Rattle.grib_simple_values.specs.Kept.{IsSeen, SeenKept, reach_of, seen-none, seen-more};
 
 use grib_packing::{Keeper, Point};
 
@@ -18,8 +18,7 @@ pub struct Seen {
 impl Seen {
     /// Before the first point.
     pub fn none() -> Seen
-        ensures greatest { result.greatest ≡ 0 }
-        ensures present { result.present ≡ 0 }
+        ensures { IsSeen [] result }
     {
         Seen {
             greatest: 0,
