@@ -5,8 +5,8 @@ use crate::worked::{
     PRODUCT, SECOND_VALUES, THREE_NUMBERS, TWO_FIELDS, edited, message_of, read,
 };
 use grib_select::{
-    Change, Choice, Choices, Key, SetFault, Test, Value, Wanted, key_value, matches, set_keys,
-    single,
+    Change, Choice, Choices, Key, SetFault, Test, Value, Wanted, changed_front, key_value, matches,
+    set_keys, single,
 };
 use grib2_message::Message;
 use std::alloc::{AllocError, Global};
@@ -335,6 +335,37 @@ fn every_product_is_changed(rt: HostRuntime) -> Result<(), Fail> {
     let edits = [(109, 0x40), (123, 7), (193, 7)];
     let expected = edited(rt.alloc(), &TWO_FIELDS, &edits)?;
     assert!(rt; changed.as_slice() == expected.as_slice());
+    Ok(())
+}
+
+/// How many octets begin a message with one change, up to those that are not copied.
+fn front_length(alloc: Global, message: &Message<'_>, key: Key) -> Option<usize> {
+    if !key.can_set() {
+        return None;
+    }
+    let value = Value::Number(7);
+    let front = changed_front(alloc, message, &[Change { key, value }]).ok()?;
+    Some(front.len())
+}
+
+#[test]
+fn a_front_ends_with_the_last_section_of_a_key(rt: HostRuntime) -> Result<(), Fail> {
+    let Ok(message) = read(rt.alloc(), &TWO_FIELDS) else {
+        return Err(Fail::from("refused"));
+    };
+    assert_eq!(rt;
+        front_length(rt.alloc(), &message, Key::Discipline),
+        Some(35)
+    );
+    assert_eq!(rt; front_length(rt.alloc(), &message, Key::DataType), Some(37));
+    assert_eq!(rt;
+        front_length(rt.alloc(), &message, Key::Scanning),
+        Some(109)
+    );
+    assert_eq!(rt;
+        front_length(rt.alloc(), &message, Key::Generator),
+        Some(213)
+    );
     Ok(())
 }
 
