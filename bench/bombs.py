@@ -109,6 +109,8 @@ def few_octets():
     yield "as many groups as points, of no bits", message(points, [no_bits]), points, [["check"], ["stats"], ["values"], ["repack", "to=2"]]
     second = data(points, 3, 0, groups(points, (2, 0)), b"")
     yield "the same with differences of order 2", message(points, [second]), points, [["check"], ["stats"], ["dump"]]
+    lengths = b"\1\0" + b"\xff" * 8 + number(points, 4) + b"\0\0" + number(0, 4) + b"\1" + number(1, 4) + b"\1"
+    yield "as many groups as points, each with one bit of its length", message(points, [data(points, 2, 0, lengths, b"\xff" * (points // 8))]), points, [["check"], ["list"]]
     yield "simple packing of 0 bits", message(points, [data(points, 0, 0, b"", b"")]), points, [["check"], ["dump"], ["repack", "to=least"]]
     yield "5 marks inside one another, with such groups", nested(5, message(points, [no_bits])), 5 * points, [["check", "refused=pass"]]
     yield "GRIB 250,000 times", b"GRIB" * 250_000, 0, [["check", "refused=pass"], ["set", "centre=7", "refused=copy"]]

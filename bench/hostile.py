@@ -790,19 +790,21 @@ def messages_before(plain, accepted):
     return int(plain.note.split()[2]) - 1 if plain.status == 3 else len(accepted)
 
 
-# The bounds of docs/PROFILE.md, chapter 10: seconds beyond one, for an octet that comes or goes, for a point, and for a point
-# where no value is unpacked; octets of memory beyond eight million, for an octet that comes or goes, for a point, and for a point
-# of `check` and `list`, which may be a group. Times are three times those of the page, since the machine has other work.
-SECONDS, MEMORY = (600e-9, 900e-9, 60e-9), (3, 44, 10)
+# The bounds of docs/PROFILE.md, chapter 10: seconds beyond one, for an octet that comes or goes, and for a point where values are
+# unpacked; octets of memory beyond eight million, for an octet that comes or goes, for a point, and for a group in `check` and
+# `list`. Times are three times those of the page, since the machine has other work.
+SECONDS, MEMORY = (600e-9, 900e-9), (3, 44, 10)
 NO_VALUES = ("check", "list", "keys", "filter", "split", "set")
 
 
 def most_time(octets, points, name):
-    return 1 + SECONDS[0] * octets + SECONDS[2 if name in NO_VALUES else 1] * points
+    return 1 + SECONDS[0] * octets + (0 if name in NO_VALUES else SECONDS[1] * points)
 
 
 def most_memory(octets, points, name):
-    return 8_000_000 + MEMORY[0] * octets + MEMORY[2 if name in ("check", "list") else 1] * points
+    # An octet has the bits of at most eight groups.
+    taken = MEMORY[2] * min(points, 8 * octets) if name in ("check", "list") else MEMORY[1] * points
+    return 8_000_000 + MEMORY[0] * octets + taken
 
 
 def claimed_points(data):
