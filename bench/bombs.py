@@ -79,10 +79,10 @@ def inputs(fields):
     yield f"5.42, {fields} fields of the first kind", message(points, [of_8] * fields)
 
 
-def groups(points, order=()):
-    """Section 5 from octet 22 on for as many groups as points, none of which has a bit, without missing values: of 5.2, and of
-    5.3 with an order and its octets."""
-    return b"\1\0" + b"\xff" * 8 + number(points, 4) + b"\0\0" + number(1, 4) + b"\1" + number(1, 4) + b"\0" + bytes(order)
+def groups(points, order=(), bits=0):
+    """Section 5 from octet 22 on for as many groups as points, without missing values: of 5.2, and of 5.3 with an order and its
+    octets. None of them has a bit, or each has one bit of its length, which is to be set."""
+    return b"\1\0" + b"\xff" * 8 + number(points, 4) + b"\0\0" + number(1 - bits, 4) + b"\1" + number(1, 4) + bytes([bits, *order])
 
 
 def scaled(points, binary, decimal, bits, seven):
@@ -109,7 +109,7 @@ def few_octets():
     yield "as many groups as points, of no bits", message(points, [no_bits]), points, [["check"], ["stats"], ["values"], ["repack", "to=2"]]
     second = data(points, 3, 0, groups(points, (2, 0)), b"")
     yield "the same with differences of order 2", message(points, [second]), points, [["check"], ["stats"], ["dump"]]
-    lengths = b"\1\0" + b"\xff" * 8 + number(points, 4) + b"\0\0" + number(0, 4) + b"\1" + number(1, 4) + b"\1"
+    lengths = groups(points, bits=1)
     yield "as many groups as points, each with one bit of its length", message(points, [data(points, 2, 0, lengths, b"\xff" * (points // 8))]), points, [["check"], ["list"]]
     yield "simple packing of 0 bits", message(points, [data(points, 0, 0, b"", b"")]), points, [["check"], ["dump"], ["repack", "to=least"]]
     yield "5 marks inside one another, with such groups", nested(5, message(points, [no_bits])), 5 * points, [["check", "refused=pass"]]
