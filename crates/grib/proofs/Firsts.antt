@@ -3,7 +3,7 @@ use Rattle.std.proofs.Common.{◌≡◌, ℕ, zero, suc, ◌+◌, ◌-◌, ◌<�
 use Rattle.std.proofs.lemmas.Bool.{false≢true}
 use Rattle.std.proofs.lemmas.List.{drop_all}
 use lib.Seq.{drop-append-le}
-use Rattle.grib_base.specs.Rows.{choose}
+use Rattle.grib_base.specs.Rules.{choose}
 use Rattle.grib_stream.specs.Stream.{begins, Judgement, Message, Faulty, message_after}
 use Rattle.grib_stream.specs.Searching.{Markless, Unmarked}
 use Rattle.grib_stream.proofs.Streams.{none_in_few, markless_more}

@@ -12,9 +12,9 @@ use Rattle.grib_stream.proofs.Streams.{begun_stays}
 use Rattle.grib_stream.proofs.Windows.{takes_none, takes_more}
 use Rattle.grib_items.specs.Items.{Item, Accepted, Refused, passed_after}
 use Rattle.grib_items.proofs.Heads.{stated_stays}
-use Rattle.grib_base.specs.Rows.{first_fault}
+use Rattle.grib_base.specs.Rules.{first_fault}
 use Rattle.grib_base.specs.declared.fault.Fault.{Fault}
-use Rattle.grib2_sections.specs.Head.{head_rows, head_of}
+use Rattle.grib2_sections.specs.Head.{head_rules, head_of}
 use Rattle.std.specs.Result.{IsErrAnd}
 use Rattle.grib_command.specs.Judging.{judge}
 use Rattle.grib.specs.declared.fault.ReadError.{ReadError}
@@ -214,22 +214,22 @@ module _ {S : Type 0} (left : S → Option (List ℕ)) where
   pub begun_added : (a b : Reading S) (n : ℕ) → begins a.ahead ≡ true → Adds left a b n → begins b.ahead ≡ true
   begun_added a b n begun added = ap begins added.ahead ∙ begun_stays a.ahead added.taken begun
 
-  pub there_stated : (b d : Reading S) (total : ℕ) (shown : List ℕ) → shown ≡ b.ahead → first_fault (head_rows shown) ≡ None → (head_of shown).total ≡ total → Adds left b d total
+  pub there_stated : (b d : Reading S) (total : ℕ) (shown : List ℕ) → shown ≡ b.ahead → first_fault (head_rules shown) ≡ None → (head_of shown).total ≡ total → Adds left b d total
       → (d.ended ≡ true) ⊎ IsThere d.ahead
   there_stated b d total shown same none stated added =
-      let none_there : first_fault (head_rows b.ahead) ≡ None = subst (λ xs. first_fault (head_rows xs) ≡ None) same none in
+      let none_there : first_fault (head_rules b.ahead) ≡ None = subst (λ xs. first_fault (head_rules xs) ≡ None) same none in
       let total_there : (head_of b.ahead).total ≡ total = subst (λ xs. (head_of xs).total ≡ total) same stated in
       let now = stated_stays b.ahead added.taken none_there in
       ⊎_elim (λ ended. inl ended)
       (λ (long : total ≤ length d.ahead).
-      let none_now : first_fault (head_rows d.ahead) ≡ None = ap (λ xs. first_fault (head_rows xs)) added.ahead ∙ now.0 in
+      let none_now : first_fault (head_rules d.ahead) ≡ None = ap (λ xs. first_fault (head_rules xs)) added.ahead ∙ now.0 in
       let total_now : (head_of d.ahead).total ≡ total = ap (λ xs. (head_of xs).total) added.ahead ∙ (now.1 ∙ total_there) in
       inr (inl (none_now, omega (arith, total_now, long))))
       added.there
 
-  pub there_refused : (a b : Reading S) (shown : List ℕ) (fault : Fault) → shown ≡ b.ahead → first_fault (head_rows shown) ≡ Some fault → Adds left a b 16 → (b.ended ≡ true) ⊎ IsThere b.ahead
+  pub there_refused : (a b : Reading S) (shown : List ℕ) (fault : Fault) → shown ≡ b.ahead → first_fault (head_rules shown) ≡ Some fault → Adds left a b 16 → (b.ended ≡ true) ⊎ IsThere b.ahead
   there_refused a b shown fault same refused added =
-      let here : first_fault (head_rows b.ahead) ≡ Some fault = subst (λ xs. first_fault (head_rows xs) ≡ Some fault) same refused in
+      let here : first_fault (head_rules b.ahead) ≡ Some fault = subst (λ xs. first_fault (head_rules xs) ≡ Some fault) same refused in
       ⊎_elim (λ ended. inl ended) (λ (long : 16 ≤ length b.ahead). inr (inr (fault, here, head_closed b.ahead fault long here))) added.there
 
   -- ---- what a call answers

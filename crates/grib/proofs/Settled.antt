@@ -5,10 +5,10 @@ use Rattle.grib_base.specs.declared.fault.Fault.{Fault}
 use Rattle.grib_base.specs.declared.profile.Profile.TheVariants.{Stated}
 use Rattle.grib_base.specs.declared.fault.Reason.{Reason}
 use Rattle.grib_base.specs.declared.fault.Reason.TheVariants.{Truncated}
-use Rattle.grib_base.specs.Rows.{first_fault, refusal, choose}
-use Rattle.grib2_sections.specs.Head.{edition, total_length_1, head_rows, head_of}
+use Rattle.grib_base.specs.Rules.{first_fault, refusal, choose, or_later}
+use Rattle.grib2_sections.specs.Head.{edition, total_length_1, head_rules, head_of}
 use Rattle.grib2_message.specs.Acceptance.{unless_refused, verdict_from, verdict_under}
-use Rattle.grib1_sections.specs.Acceptance.{or_else, sections_fault, verdict_by, verdict_1}
+use Rattle.grib1_sections.specs.Acceptance.{sections_fault, verdict_by, verdict_1}
 use Rattle.grib_stream.specs.Stream.{Judgement, Message, Faulty}
 use Rattle.grib_stream.specs.Outcomes.{is_truncated}
 use Rattle.grib_items.specs.Next.{is_ended, passed_by, passed}
@@ -51,7 +51,7 @@ not_short true octets head later is closed =
     absurd (false≢true (sym closed ∙ sym (ap (λ (f : Fault). is_truncated f.reason) same)))
 not_short false octets head later is closed = refl
 
-refused_long : (octets : List ℕ) (head : Fault) → first_fault (head_rows octets) ≡ Some head → is_truncated head.reason ≡ false → 8 ≤ length octets
+refused_long : (octets : List ℕ) (head : Fault) → first_fault (head_rules octets) ≡ Some head → is_truncated head.reason ≡ false → 8 ≤ length octets
 refused_long octets head is closed = ltb-false (length octets) 8 (not_short (nat_lt (length octets) 8) octets head _ is closed)
 
 long_there : (octets : List ℕ) → IsThere octets → 8 ≤ length octets
@@ -66,19 +66,19 @@ judged_by octets later (Faulty fault) long is closed = refusal_stays octets late
 unless_is : (found : Option Fault) (head : Fault) (next : Unit {0} → Verdict) → found ≡ Some head → unless_refused found next ≡ Refused head
 unless_is found head next is = ap (λ f. unless_refused f next) is
 
-by_is : (found : Option Fault) (head : Fault) (later : Unit {0} → Option Fault) (total : ℕ) → found ≡ Some head → verdict_by (or_else found later) total ≡ Refused head
-by_is found head later total is = ap (λ f. verdict_by (or_else f later) total) is
+by_is : (found : Option Fault) (head : Fault) (later : Unit {0} → Option Fault) (total : ℕ) → found ≡ Some head → verdict_by (or_later found later) total ≡ Refused head
+by_is found head later total is = ap (λ f. verdict_by (or_later f later) total) is
 
-head_judged_by : (octets : List ℕ) (head : Fault) (b : Bool) → (edition octets == 1) ≡ b → first_fault (head_rows octets) ≡ Some head → judge octets ≡ Faulty head
+head_judged_by : (octets : List ℕ) (head : Fault) (b : Bool) → (edition octets == 1) ≡ b → first_fault (head_rules octets) ≡ Some head → judge octets ≡ Faulty head
 head_judged_by octets head true one refused =
-    let verdict : verdict_1 octets ≡ Refused head = by_is (first_fault (head_rows octets)) head (λ _. sections_fault octets) (total_length_1 octets) refused in
+    let verdict : verdict_1 octets ≡ Refused head = by_is (first_fault (head_rules octets)) head (λ _. sections_fault octets) (total_length_1 octets) refused in
     first_judged octets one ∙ ap judged verdict
 head_judged_by octets head false not_one refused =
     let verdict : verdict_under Stated octets ≡ Refused head =
-    unless_is (first_fault (head_rows octets)) head (λ _. verdict_from Stated (length octets + 1) octets [] 17) refused in
+    unless_is (first_fault (head_rules octets)) head (λ _. verdict_from Stated (length octets + 1) octets [] 17) refused in
     other Stated octets not_one ∙ ap judged verdict
 
-head_judged : (octets : List ℕ) (head : Fault) → first_fault (head_rows octets) ≡ Some head → judge octets ≡ Faulty head
+head_judged : (octets : List ℕ) (head : Fault) → first_fault (head_rules octets) ≡ Some head → judge octets ≡ Faulty head
 head_judged octets head refused = head_judged_by octets head (edition octets == 1) refl refused
 
 closed_there : (octets : List ℕ) → IsThere octets → (fault : Fault) → judge octets ≡ Faulty fault → is_truncated fault.reason ≡ false

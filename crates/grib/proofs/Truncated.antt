@@ -6,21 +6,21 @@ use Rattle.grib_base.specs.declared.profile.Profile.{Profile}
 use Rattle.grib_base.specs.declared.profile.Profile.TheVariants.{Stated}
 use Rattle.grib_base.specs.declared.fault.Fault.{Fault}
 use Rattle.grib_base.specs.declared.fault.Reason.TheVariants.{Truncated}
-use Rattle.grib_base.specs.Rows.{Row, first_fault, first_fault_at, located, choose}
+use Rattle.grib_base.specs.Rules.{Rule, first_fault, first_fault_at, located, choose, or_later}
 use Rattle.grib2_sections.specs.Verdict.{Verdict, Accepted, Refused}
-use Rattle.grib2_sections.specs.Head.{edition, discipline, total_length, total_length_1, head_rows, head_of}
+use Rattle.grib2_sections.specs.Head.{edition, discipline, total_length, total_length_1, head_rules, head_of}
 use Rattle.grib2_sections.specs.declared.indicator.Head.{Head}
-use Rattle.grib2_sections.specs.Frame.{Placed, placed_at, section_at, ends_at, mark_rows, frame_rows, Step, End, Fails, Next, step, unless_fails}
+use Rattle.grib2_sections.specs.Frame.{Placed, placed_at, section_at, ends_at, mark_rules, frame_rules, Step, End, Fails, Next, step, unless_fails}
 use Rattle.grib2_message.specs.View.{last_number}
 use Rattle.grib2_message.specs.Acceptance.{section_fault_under, unless_refused, verdict_at, verdict_from, verdict_under}
 use Rattle.grib2_message.proofs.Passed.{passes_from_none}
 use Rattle.grib2_message.proofs.Walk.{stands}
-use Rattle.grib1_sections.specs.Frame.{frame_rows as frame_1_rows, section_at as section_1_at, end_rows}
-use Rattle.grib1_sections.specs.Identification.{identification_rows}
-use Rattle.grib1_sections.specs.Grid.{grid_rows}
-use Rattle.grib1_sections.specs.Bitmap.{bitmap_rows}
-use Rattle.grib1_sections.specs.Data.{data_rows}
-use Rattle.grib1_sections.specs.Acceptance.{or_else, section_fault, bitmap_fault, sections_fault, message_fault, verdict_by, verdict_1, has_bitmap, grid_start, bitmap_start, data_start, end_start, points_of, values_of}
+use Rattle.grib1_sections.specs.Frame.{frame_rules as frame_1_rules, section_at as section_1_at, end_rules}
+use Rattle.grib1_sections.specs.Identification.{identification_rules}
+use Rattle.grib1_sections.specs.Grid.{grid_rules}
+use Rattle.grib1_sections.specs.Bitmap.{bitmap_rules}
+use Rattle.grib1_sections.specs.Data.{data_rules}
+use Rattle.grib1_sections.specs.Acceptance.{section_fault, bitmap_fault, sections_fault, message_fault, verdict_by, verdict_1, has_bitmap, grid_start, bitmap_start, data_start, end_start, points_of, values_of}
 use Rattle.grib1_sections.proofs.Parts.{whole_from_none, bitmap_whole, head_first}
 use Rattle.grib1_sections.proofs.Places.{grid_start-is, bitmap_start-is, data_start-flagged, data_start-plain, end_start-is}
 use Rattle.grib_stream.specs.Stream.{Faulty}
@@ -33,37 +33,37 @@ use Rattle.grib2_message.proofs.Ways.{given}
 use Rattle.grib2_message.proofs.Whole.{head_passes}
 use Rattle.grib2_arrival.proofs.Reasons.{IsOther, end_other, section_other, other_reason}
 
--- ---- rows
+-- ---- rules
 
-row_off : (b : Bool) (fault : Fault) (later : Option Fault) → b ≡ false → IsOther later → IsOther (cond b (Some fault) later)
-row_off true fault later off other = absurd (false≢true (sym off))
-row_off false fault later off other = other
+rule_off : (b : Bool) (fault : Fault) (later : Option Fault) → b ≡ false → IsOther later → IsOther (cond b (Some fault) later)
+rule_off true fault later off other = absurd (false≢true (sym off))
+rule_off false fault later off other = other
 
--- each row does not fail, or fails for another reason
-abbrev Passed : List Row → Type 0
+-- each rule does not fail, or fails for another reason
+abbrev Passed : List Rule → Type 0
 Passed [] = Unit {0}
-Passed (r ∷ rows) = ((r.fails ≡ false) ⊎ (is_truncated r.fault.reason ≡ false)) × (r.fails ≡ false → Passed rows)
+Passed (r ∷ rules) = ((r.fails ≡ false) ⊎ (is_truncated r.fault.reason ≡ false)) × (r.fails ≡ false → Passed rules)
 
-by_row : (b : Bool) (fault : Fault) (later : Option Fault) → (b ≡ false) ⊎ (is_truncated fault.reason ≡ false) → (b ≡ false → IsOther later) → IsOther (cond b (Some fault) later)
-by_row true fault later (inl off) more = absurd (false≢true (sym off))
-by_row true fault later (inr plain) more = λ e. false≢true (sym plain ∙ ap is_truncated e)
-by_row false fault later either more = more refl
+by_rule : (b : Bool) (fault : Fault) (later : Option Fault) → (b ≡ false) ⊎ (is_truncated fault.reason ≡ false) → (b ≡ false → IsOther later) → IsOther (cond b (Some fault) later)
+by_rule true fault later (inl off) more = absurd (false≢true (sym off))
+by_rule true fault later (inr plain) more = λ e. false≢true (sym plain ∙ ap is_truncated e)
+by_rule false fault later either more = more refl
 
-rows_passed : (rows : List Row) → Passed rows → IsOther (first_fault rows)
-rows_passed [] passed = tt
-rows_passed (r ∷ rows) passed = by_row r.fails r.fault (first_fault rows) passed.0 (λ off. rows_passed rows (passed.1 off))
+rules_passed : (rules : List Rule) → Passed rules → IsOther (first_fault rules)
+rules_passed [] passed = tt
+rules_passed (r ∷ rules) passed = by_rule r.fails r.fault (first_fault rules) passed.0 (λ off. rules_passed rules (passed.1 off))
 
 -- ---- edition 2
 
-mark_other : (m : List ℕ) (total last q : ℕ) → q + 3 ≤ length m → IsOther (first_fault (mark_rows m total last q))
+mark_other : (m : List ℕ) (total last q : ℕ) → q + 3 ≤ length m → IsOther (first_fault (mark_rules m total last q))
 mark_other m total last q there =
-    row_off (nat_lt (length m) (q + 3)) _ _ (le-ltb (length m) (q + 3) there)
+    rule_off (nat_lt (length m) (q + 3)) _ _ (le-ltb (length m) (q + 3) there)
     (end_other (record { total = total; place = q; last = last }) (octets m q (q + 3)))
 
-frame_other : (m : List ℕ) (total last q : ℕ) → q + 4 ≤ length m → total ≤ length m → IsOther (first_fault (frame_rows m total last q))
+frame_other : (m : List ℕ) (total last q : ℕ) → q + 4 ≤ length m → total ≤ length m → IsOther (first_fault (frame_rules m total last q))
 frame_other m total last q there whole =
     let l : ℕ = octets m q (q + 3) in
-    rows_passed (frame_rows m total last q) (
+    rules_passed (frame_rules m total last q) (
       inl (le-ltb (length m) (q + 4) there),
       λ _. (
         inr refl,
@@ -95,10 +95,10 @@ not_here false here off none = off
 
 step_other : (m : List ℕ) (total last q : ℕ) → q + 3 ≤ total → total ≤ length m → IsStep (step m total last q)
 step_other m total last q room whole =
-    by_parts (first_fault (mark_rows m total last q)) (ends_at m q) (first_fault (frame_rows m total last q)) (section_at m q)
+    by_parts (first_fault (mark_rules m total last q)) (ends_at m q) (first_fault (frame_rules m total last q)) (section_at m q)
     (mark_other m total last q (omega arith))
     (λ marked goes.
-    let p = passes_from_none (mark_rows m total last q) marked in
+    let p = passes_from_none (mark_rules m total last q) marked in
     let off : (q + 3 == total) ≡ false = not_here (ends_at m q) (q + 3 == total) p.1.1.1.0 goes in
     let other : q + 3 ≢ total = λ e. false≢true (sym off ∙ eq-eqb (q + 3) total e) in
     frame_other m total last q (omega arith) whole)
@@ -137,18 +137,18 @@ none_other : (fault : Option Fault) → fault ≡ None → IsOther fault
 none_other None is = tt
 none_other (Some fault) is = cc
 
-second_whole : (profile : Profile) (m : List ℕ) (fault : Fault) → edition m ≢ 1 → first_fault (head_rows m) ≡ None → total_length m ≤ length m
+second_whole : (profile : Profile) (m : List ℕ) (fault : Fault) → edition m ≢ 1 → first_fault (head_rules m) ≡ None → total_length m ≤ length m
     → verdict_under profile m ≡ Refused fault → fault.reason ≢ Truncated
 second_whole profile m fault other none whole is =
-    let p = head_passes m other (passes_from_none (head_rows m) none) in
+    let p = head_passes m other (passes_from_none (head_rules m) none) in
     let all : IsVerdict (verdict_under profile m) =
-    unless_other (first_fault (head_rows m)) (λ _. verdict_from profile (length m + 1) m [] 17) (none_other (first_fault (head_rows m)) none)
+    unless_other (first_fault (head_rules m)) (λ _. verdict_from profile (length m + 1) m [] 17) (none_other (first_fault (head_rules m)) none)
     (λ _. walk_other profile (length m + 1) m [] 17 (omega arith) (omega (arith, p.least)) whole (omega arith)) in
     subst IsVerdict is all
 
 -- ---- edition 1
 
-or_other : (first : Option Fault) (later : Unit {0} → Option Fault) → IsOther first → (first ≡ None → IsOther (later tt)) → IsOther (or_else first later)
+or_other : (first : Option Fault) (later : Unit {0} → Option Fault) → IsOther first → (first ≡ None → IsOther (later tt)) → IsOther (or_later first later)
 or_other (Some fault) later other more = other
 or_other None later other more = more refl
 
@@ -156,12 +156,12 @@ located_other : (start : ℕ) (fault : Option Fault) → IsOther fault → IsOth
 located_other start None other = tt
 located_other start (Some fault) other = other
 
-section_1 : (m : List ℕ) (q least : ℕ) (rows : List ℕ → List Row) → q + 2 ≤ length m → total_length_1 m ≤ length m → IsOther (first_fault (rows (section_1_at m q)))
-    → IsOther (section_fault m q least rows)
-section_1 m q least rows there whole other =
+section_1 : (m : List ℕ) (q least : ℕ) (rules : List ℕ → List Rule) → q + 2 ≤ length m → total_length_1 m ≤ length m → IsOther (first_fault (rules (section_1_at m q)))
+    → IsOther (section_fault m q least rules)
+section_1 m q least rules there whole other =
     let l : ℕ = octets m q (q + 2) in
-    or_other (first_fault (frame_1_rows m q least)) (λ _. first_fault_at q (rows (section_1_at m q)))
-    (rows_passed (frame_1_rows m q least) (
+    or_other (first_fault (frame_1_rules m q least)) (λ _. first_fault_at q (rules (section_1_at m q)))
+    (rules_passed (frame_1_rules m q least) (
       inl (le-ltb (length m) (q + 2) there),
       λ _. (
         inr refl,
@@ -170,30 +170,30 @@ section_1 m q least rows there whole other =
             (inl (le-ltb (length m) (q - 1 + l) (omega arith)), λ _. tt),
       ),
     ))
-    (λ none. located_other q (first_fault (rows (section_1_at m q))) other)
+    (λ none. located_other q (first_fault (rules (section_1_at m q))) other)
 
-identification_other : (s : List ℕ) → IsOther (first_fault (identification_rows s))
-identification_other s = rows_passed (identification_rows s) (inr refl, λ _. tt)
+identification_other : (s : List ℕ) → IsOther (first_fault (identification_rules s))
+identification_other s = rules_passed (identification_rules s) (inr refl, λ _. tt)
 
-grid_other : (s : List ℕ) → IsOther (first_fault (grid_rows s))
-grid_other s = rows_passed (grid_rows s) (inr refl, λ _. (inr refl, λ _. (inr refl, λ _. (inr refl, λ _. (inr refl, λ _. (inr refl, λ _. (inr refl, λ _. tt)))))))
+grid_other : (s : List ℕ) → IsOther (first_fault (grid_rules s))
+grid_other s = rules_passed (grid_rules s) (inr refl, λ _. (inr refl, λ _. (inr refl, λ _. (inr refl, λ _. (inr refl, λ _. (inr refl, λ _. (inr refl, λ _. tt)))))))
 
-bitmap_other : (points : ℕ) (s : List ℕ) → IsOther (first_fault (bitmap_rows points s))
-bitmap_other points s = rows_passed (bitmap_rows points s) (inr refl, λ _. (inr refl, λ _. tt))
+bitmap_other : (points : ℕ) (s : List ℕ) → IsOther (first_fault (bitmap_rules points s))
+bitmap_other points s = rules_passed (bitmap_rules points s) (inr refl, λ _. (inr refl, λ _. tt))
 
-data_other : (present : ℕ) (s : List ℕ) → IsOther (first_fault (data_rows present s))
-data_other present s = rows_passed (data_rows present s) (inr refl, λ _. (inr refl, λ _. (inr refl, λ _. (inr refl, λ _. (inr refl, λ _. tt)))))
+data_other : (present : ℕ) (s : List ℕ) → IsOther (first_fault (data_rules present s))
+data_other present s = rules_passed (data_rules present s) (inr refl, λ _. (inr refl, λ _. (inr refl, λ _. (inr refl, λ _. (inr refl, λ _. tt)))))
 
-end_other_1 : (m : List ℕ) (q : ℕ) → q + 3 ≤ length m → IsOther (first_fault (end_rows m q))
-end_other_1 m q there = rows_passed (end_rows m q) (inl (le-ltb (length m) (q + 3) there), λ _. (inr refl, λ _. (inr refl, λ _. tt)))
+end_other_1 : (m : List ℕ) (q : ℕ) → q + 3 ≤ length m → IsOther (first_fault (end_rules m q))
+end_other_1 m q there = rules_passed (end_rules m q) (inl (le-ltb (length m) (q + 3) there), λ _. (inr refl, λ _. (inr refl, λ _. tt)))
 
 -- the bitmap, where it is flagged, and where Section 4 then begins
 bitmap_section : (m : List ℕ) (b : Bool) → has_bitmap m ≡ b → bitmap_start m + 3 ≤ total_length_1 m → total_length_1 m ≤ length m → IsOther (bitmap_fault m)
 bitmap_section m true on room whole =
-    subst (λ b. IsOther (choose b (λ _. section_fault m (bitmap_start m) 6 (bitmap_rows (points_of m))) (λ _. None))) (sym on)
-    (section_1 m (bitmap_start m) 6 (bitmap_rows (points_of m)) (omega arith) whole (bitmap_other (points_of m) (section_1_at m (bitmap_start m))))
+    subst (λ b. IsOther (choose b (λ _. section_fault m (bitmap_start m) 6 (bitmap_rules (points_of m))) (λ _. None))) (sym on)
+    (section_1 m (bitmap_start m) 6 (bitmap_rules (points_of m)) (omega arith) whole (bitmap_other (points_of m) (section_1_at m (bitmap_start m))))
 bitmap_section m false off room whole =
-    subst (λ b. IsOther (choose b (λ _. section_fault m (bitmap_start m) 6 (bitmap_rows (points_of m))) (λ _. None))) (sym off) tt
+    subst (λ b. IsOther (choose b (λ _. section_fault m (bitmap_start m) 6 (bitmap_rules (points_of m))) (λ _. None))) (sym off) tt
 
 data_room : (m : List ℕ) (b : Bool) → has_bitmap m ≡ b → 1 ≤ bitmap_start m → bitmap_start m + 3 ≤ total_length_1 m → bitmap_fault m ≡ None
     → (1 ≤ data_start m) × (data_start m + 3 ≤ total_length_1 m)
@@ -206,18 +206,18 @@ data_room m false off low room none = let at = data_start-plain m off in (omega 
 
 sections_1 : (m : List ℕ) → 12 ≤ total_length_1 m → total_length_1 m ≤ length m → IsOther (sections_fault m)
 sections_1 m least whole =
-    or_other (section_fault m 9 28 identification_rows) _
-    (section_1 m 9 28 identification_rows (omega arith) whole (identification_other (section_1_at m 9)))
+    or_other (section_fault m 9 28 identification_rules) _
+    (section_1 m 9 28 identification_rules (omega arith) whole (identification_other (section_1_at m 9)))
     (λ first.
-    let w_1 = whole_from_none m 9 28 identification_rows first in
+    let w_1 = whole_from_none m 9 28 identification_rules first in
     let room_1 = w_1.room in
     let grid_at = grid_start-is m in
     let grid_room : grid_start m + 3 ≤ total_length_1 m = omega (arith, grid_at, room_1) in
     let grid_low : 1 ≤ grid_start m = omega (arith, grid_at) in
-    or_other (section_fault m (grid_start m) 6 grid_rows) _
-    (section_1 m (grid_start m) 6 grid_rows (omega arith) whole (grid_other (section_1_at m (grid_start m))))
+    or_other (section_fault m (grid_start m) 6 grid_rules) _
+    (section_1 m (grid_start m) 6 grid_rules (omega arith) whole (grid_other (section_1_at m (grid_start m))))
     (λ second.
-    let w_2 = whole_from_none m (grid_start m) 6 grid_rows second in
+    let w_2 = whole_from_none m (grid_start m) 6 grid_rules second in
     let room_2 = w_2.room in
     let bitmap_at = bitmap_start-is m in
     let bitmap_room : bitmap_start m + 3 ≤ total_length_1 m = omega (arith, bitmap_at, room_2, grid_low) in
@@ -227,10 +227,10 @@ sections_1 m least whole =
     let data_at = data_room m (has_bitmap m) refl bitmap_low bitmap_room third in
     let data_low : 1 ≤ data_start m = data_at.0 in
     let data_fits : data_start m + 3 ≤ total_length_1 m = data_at.1 in
-    or_other (section_fault m (data_start m) 11 (data_rows (values_of m))) _
-    (section_1 m (data_start m) 11 (data_rows (values_of m)) (omega arith) whole (data_other (values_of m) (section_1_at m (data_start m))))
+    or_other (section_fault m (data_start m) 11 (data_rules (values_of m))) _
+    (section_1 m (data_start m) 11 (data_rules (values_of m)) (omega arith) whole (data_other (values_of m) (section_1_at m (data_start m))))
     (λ fourth.
-    let w_4 = whole_from_none m (data_start m) 11 (data_rows (values_of m)) fourth in
+    let w_4 = whole_from_none m (data_start m) 11 (data_rules (values_of m)) fourth in
     let room_4 = w_4.room in
     let end_at = end_start-is m in
     end_other_1 m (end_start m) (omega (arith, end_at, room_4, data_low))))))
@@ -239,12 +239,12 @@ by_total : (found : Option Fault) (total : ℕ) (fault : Fault) → verdict_by f
 by_total None total fault is = cc
 by_total (Some other) total fault is = let same : other ≡ fault = cc in ap Some same
 
-first_whole : (m : List ℕ) (fault : Fault) → edition m ≡ 1 → first_fault (head_rows m) ≡ None → total_length_1 m ≤ length m
+first_whole : (m : List ℕ) (fault : Fault) → edition m ≡ 1 → first_fault (head_rules m) ≡ None → total_length_1 m ≤ length m
     → verdict_1 m ≡ Refused fault → fault.reason ≢ Truncated
 first_whole m fault first none whole is =
     let head = head_first m first none in
     other_reason (message_fault m) fault
-    (or_other (first_fault (head_rows m)) (λ _. sections_fault m) (none_other (first_fault (head_rows m)) none) (λ _. sections_1 m head.1 whole))
+    (or_other (first_fault (head_rules m)) (λ _. sections_fault m) (none_other (first_fault (head_rules m)) none) (λ _. sections_1 m head.1 whole))
     (by_total (message_fault m) (total_length_1 m) fault is)
 
 -- ---- by the edition
@@ -257,7 +257,7 @@ total_second : (m : List ℕ) → (edition m == 1) ≡ false → (head_of m).tot
 total_second m other =
     ap (λ b. (cond {A = Head} b (record { edition = 1; discipline = 0; total = total_length_1 m }) (record { edition = 2; discipline = discipline m; total = total_length m })).total) other
 
-pub refused_whole : (m : List ℕ) (fault : Fault) → first_fault (head_rows m) ≡ None → (head_of m).total ≤ length m → judge m ≡ Faulty fault → is_truncated fault.reason ≡ false
+pub refused_whole : (m : List ℕ) (fault : Fault) → first_fault (head_rules m) ≡ None → (head_of m).total ≤ length m → judge m ≡ Faulty fault → is_truncated fault.reason ≡ false
 refused_whole m fault none whole is =
     ⊎_elim
     (λ (one : IsFirst m (Refused fault)).
@@ -268,11 +268,11 @@ refused_whole m fault none whole is =
     not_truncated fault.reason (second_whole Stated m fault (not_first m two.other_edition) none (omega (arith, stated, whole)) two.verdict_is))
     (refusal_judged Stated m fault is)
 
--- ---- the rows of Section 0, where sixteen octets are there
+-- ---- the rules of Section 0, where sixteen octets are there
 
-pub head_closed : (octets : List ℕ) (fault : Fault) → 16 ≤ length octets → first_fault (head_rows octets) ≡ Some fault → is_truncated fault.reason ≡ false
+pub head_closed : (octets : List ℕ) (fault : Fault) → 16 ≤ length octets → first_fault (head_rules octets) ≡ Some fault → is_truncated fault.reason ≡ false
 head_closed octets fault long is =
     let few : nat_lt (length octets) 8 ≡ false = le-ltb (length octets) 8 (omega (arith, long)) in
     let whole : (edition octets == 2 && nat_lt (length octets) 16) ≡ false = and_off (edition octets == 2) (nat_lt (length octets) 16) (le-ltb (length octets) 16 long) in
-    let other : IsOther (first_fault (head_rows octets)) = rows_passed (head_rows octets) (inl few, λ _. (inr refl, λ _. (inl whole, λ _. (inr refl, λ _. (inr refl, λ _. tt))))) in
-    not_truncated fault.reason (other_reason (first_fault (head_rows octets)) fault other is)
+    let other : IsOther (first_fault (head_rules octets)) = rules_passed (head_rules octets) (inl few, λ _. (inr refl, λ _. (inl whole, λ _. (inr refl, λ _. (inr refl, λ _. tt))))) in
+    not_truncated fault.reason (other_reason (first_fault (head_rules octets)) fault other is)

@@ -2,8 +2,9 @@
 use Rattle.std.specs.Prelude.{◌≡◌, ℕ, false, None, List}
 use Rattle.grib_packing.specs.Written.{IsTarget}
 use Rattle.grib_repack.specs.Repacked.{repacked, repack_misfit}
-use Rattle.grib_repack.specs.Faults.{target_of, IsRepackFault}
-use Rattle.grib_repack.specs.declared.target.RepackTarget.{RepackTarget}
+use Rattle.grib_packing.specs.Targets.{target_of}
+use Rattle.grib_repack.specs.Faults.{IsRepackFault}
+use Rattle.grib_packing.specs.declared.target.RepackTarget.{RepackTarget}
 use Rattle.grib_params.specs.Table.{Entries}
 use Rattle.grib_migrate.specs.Losses.{first_loss}
 use Rattle.grib_migrate.specs.Migrated.{migrated}

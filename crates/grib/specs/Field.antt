@@ -4,7 +4,7 @@ use Rattle.grib_dyadic.specs.Reference.{Binary, ieee, ibm, reduced}
 use Rattle.grib_keys.specs.declared.key.Key.{Key}
 use Rattle.grib_keys.specs.declared.condition.Value.{Value as KeyValue}
 use Rattle.grib_packing.specs.declared.column.Column.{Column}
-use Rattle.grib1_sections.specs.declared.key.Key1.{Key1}
+use Rattle.grib_keys.specs.declared.key1.Key1.{Key1}
 use Rattle.grib1_sections.specs.Keys.{number1_of}
 use Rattle.grib1_sections.specs.Column.{column1_of}
 use Rattle.grib1_sections.specs.Acceptance.{points_of}

@@ -2,7 +2,7 @@
 use Rattle.std.specs.Prelude.{ℤ, Option, None, Some, List, [], ◌∷◌}
 use Rattle.grib_keys.specs.declared.key.Key.{Key}
 use Rattle.grib_keys.specs.declared.condition.Value.{Value}
-use Rattle.grib1_sections.specs.declared.key.Key1.{Key1}
+use Rattle.grib_keys.specs.declared.key1.Key1.{Key1}
 use Rattle.grib.specs.declared.keys.Keys.{Keys}
 use Rattle.grib.specs.declared.keys.Keys1.{Keys1}
 use Rattle.grib.specs.Field.{shown, key_in, key1_in}

@@ -2,7 +2,7 @@
 
 ghost use Rattle.std.specs.Prelude.{◌≡◌, ◌≤◌, ◌↔◌, IsTrue, MatchResult};
 ghost use Rattle.grib_packing.specs.Written.{IsBlocks, IsTarget};
-ghost use Rattle.grib_repack.specs.Faults.{target_of};
+ghost use Rattle.grib_packing.specs.Targets.{target_of};
 ghost use Rattle.grib_repack.specs.Repacked.{repacked, repack_misfit};
 ghost use Rattle.grib2_message.specs.Fields.{field_count};
 ghost use Rattle.grib2_message.specs.Message.{IsMessage};

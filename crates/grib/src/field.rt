@@ -4,7 +4,7 @@ ghost use Rattle.std.specs.Prelude.{◌≡◌, ◌≤◌, MatchOption, MatchResu
 ghost use Rattle.grib_base.specs.declared.limits.TheConstants.{MOST_POINTS};
 ghost use Rattle.grib1_sections.specs.Acceptance.{points_of};
 ghost use Rattle.grib1_sections.specs.Column.{column1_of};
-ghost use Rattle.grib1_sections.specs.Keys.{keys1};
+ghost use Rattle.grib_keys.specs.Keys1.{keys1};
 ghost use Rattle.grib_keys.specs.Keys.{keys};
 ghost use Rattle.grib2_grids.specs.Grid.{grid_points};
 ghost use Rattle.grib2_message.specs.Fields.{field_count, part_octets, column_of};

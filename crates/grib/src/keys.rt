@@ -59,7 +59,7 @@ pub struct Keys1<'m, 'a> {
 
 impl<'m, 'a> Keys1<'m, 'a> {
     ghost use Rattle.std.specs.Prelude.{◌≡◌};
-    ghost use Rattle.grib1_sections.specs.Keys.{keys1};
+    ghost use Rattle.grib_keys.specs.Keys1.{keys1};
     ghost use Rattle.grib.specs.Field.{shown, key1_in};
     ghost use Rattle.grib.specs.Keys.{keys1_left, with_values};
 

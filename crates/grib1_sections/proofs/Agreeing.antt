@@ -1,7 +1,7 @@
 -- Octets that agree up to some place.
-use Rattle.std.proofs.Common.{◌≡◌, ℕ, ◌+◌, ◌-◌, ◌≤◌, List, ◌++◌, length, take, drop, refl, sym, ap, ◌∙◌, arith, length-append, length-take-le, take-take, take_at}
-use Rattle.std.proofs.lemmas.List.{drop-take}
+use Rattle.std.proofs.Common.{◌≡◌, ℕ, ◌+◌, ◌-◌, ◌≤◌, List, ◌++◌, length, take, refl, sym, ap, ◌∙◌, arith, length-append, length-take-le, take_at}
 use Rattle.grib_bits.specs.Octets.{num_on, octets, octet_list}
+use Rattle.grib_bits.proofs.Counted.{list_of_front}
 use Rattle.grib1_sections.specs.Frame.{section_at, after}
 
 -- the first n octets of u and of w are the same
@@ -9,14 +9,6 @@ pub record Agree (n : ℕ) (u w : List ℕ) : Type 0 where
   pub long_u : n ≤ length u
   pub long_w : n ≤ length w
   pub lists : (first last : ℕ) → 1 ≤ first → first ≤ last → last ≤ n → octet_list w first last ≡ octet_list u first last
-
--- some octets of a front
-list_of_front : (m : List ℕ) (n first last : ℕ) → 1 ≤ first → first ≤ last → last ≤ n → octet_list (take n m) first last ≡ octet_list m first last
-list_of_front m n first last low order within =
-    let split : n ≡ (first - 1) + (n - (first - 1)) = omega arith in
-    let fits : last + 1 - first ≤ n - (first - 1) = omega arith in
-    ap (λ k. take (last + 1 - first) (drop (first - 1) (take k m))) split
-    ∙ (ap (take (last + 1 - first)) (drop-take (first - 1) (n - (first - 1)) m) ∙ take-take (last + 1 - first) (n - (first - 1)) (drop (first - 1) m) fits)
 
 pub agree_front : (m : List ℕ) (n : ℕ) → n ≤ length m → Agree n m (take n m)
 agree_front m n within = record {

@@ -6,20 +6,21 @@ use Rattle.std.proofs.lemmas.Bool.{not_from_true}
 use Rattle.std.proofs.lemmas.List.FromFn.{map-range_with_len_more}
 use Rattle.std.proofs.lemmas.List.Sums.{sum_by_push}
 use Rattle.grib_bits.specs.Octets.{octets}
+use Rattle.grib_base.proofs.Firsts.{some_first, some_later, none_after}
 use Rattle.grib_base.specs.declared.fault.Fault.{Fault}
-use Rattle.grib_base.specs.Rows.{first_fault, choose}
+use Rattle.grib_base.specs.Rules.{first_fault, choose}
 use Rattle.grib2_sections.specs.Verdict as verdicts
 use Rattle.grib2_sections.specs.Verdict.{Verdict}
 use Rattle.grib2_sections.specs.declared.indicator.Head.{Head}
-use Rattle.grib2_sections.specs.Head.{indicator, edition, discipline, head_rows, head_of, total_length, total_length_1}
+use Rattle.grib2_sections.specs.Head.{indicator, edition, discipline, head_rules, head_of, total_length, total_length_1}
 use Rattle.grib2_sections.specs.Template.{is_template, least_length}
 use Rattle.grib_bitmap.specs.Mask.{present_count}
 use Rattle.grib_bitmap.proofs.Runs.{present_count-replicate}
-use Rattle.grib1_sections.specs.Frame.{end_rows, section_at}
-use Rattle.grib1_sections.specs.Identification.{identification_rows}
-use Rattle.grib1_sections.specs.Grid.{grid_rows, grid_types, grid_type}
-use Rattle.grib1_sections.specs.Bitmap.{bitmap_rows, mask_of}
-use Rattle.grib1_sections.specs.Data.{data_rows}
+use Rattle.grib1_sections.specs.Frame.{end_rules, section_at}
+use Rattle.grib1_sections.specs.Identification.{identification_rules}
+use Rattle.grib1_sections.specs.Grid.{grid_rules, grid_types, grid_type}
+use Rattle.grib1_sections.specs.Bitmap.{bitmap_rules, mask_of}
+use Rattle.grib1_sections.specs.Data.{data_rules}
 use Rattle.grib1_sections.specs.Acceptance.{section_fault, bitmap_fault, message_fault, verdict_1, has_bitmap, identification, grid, bitmap, data_section, grid_start, bitmap_start, data_start, end_start, points_of, values_of}
 use Rattle.grib2_sections.specs.Refused.{IsVerdict}
 use Rattle.grib_base.specs.Faults.{IsReadFault}
@@ -27,7 +28,7 @@ use Rattle.grib1_sections.specs.Known.{Stands, HasBitmap, HasSections}
 use Rattle.grib_base.specs.declared.fault.ReadFault.{ReadFault}
 use Rattle.grib_base.specs.declared.fault.ReadFault.TheVariants.{Refused, Memory}
 use Rattle.grib_base.proofs.Passing.{none_from_passes}
-use Rattle.grib1_sections.proofs.Rows.{none_accepted, some_first, some_later, some_refused, none_or}
+use Rattle.grib1_sections.proofs.Verdicts.{none_accepted, some_refused}
 use Rattle.grib1_sections.proofs.Places.{grid_start-is, bitmap_start-is, data_start-flagged, data_start-plain, end_start-is, bitmap-flagged, bitmap-plain, same_identification, same_grid, same_bitmap, same_data, same_points, same_values}
 use Rattle.grib1_sections.proofs.Agreeing.{agree_front}
 use Rattle.grib1_sections.proofs.Fronts.{accepted_parts, accepted_states, accepted_there, front_is_message}
@@ -39,13 +40,13 @@ use Rattle.grib1_sections.proofs.Parts.{parts_inside, from_end, from_data, from_
 pub sum_more : (f : ℕ → ℕ) (n : ℕ) → sum (map f (range_with_len 0 (n + 1))) ≡ sum (map f (range_with_len 0 n)) + f n
 sum_more f n = ap sum (map-range_with_len_more f 0 n n (omega arith)) ∙ sum_by_push (λ x. x) (map f (range_with_len 0 n)) (f n)
 
--- ---- the first rows of Section 2
+-- ---- the first rules of Section 2
 
 pub two_passed : (s : List ℕ) (t least : ℕ) → t ≡ grid_type s → is_template grid_types t ≡ true → least ≡ least_length grid_types t → least ≤ length s
-    → first_fault (take 2 (grid_rows s)) ≡ None
+    → first_fault (take 2 (grid_rules s)) ≡ None
 two_passed s t least e known is long =
     let least_is : least ≡ least_length grid_types (grid_type s) = is ∙ ap (least_length grid_types) e in
-    none_from_passes (take 2 (grid_rows s)) (
+    none_from_passes (take 2 (grid_rules s)) (
       not_from_true (is_template grid_types (grid_type s)) (ap (is_template grid_types) (sym e) ∙ known),
       (le-ltb (length s) (least_length grid_types (grid_type s)) (omega (arith, least_is, long)), tt),
     )
@@ -76,45 +77,45 @@ passed_on P (Err e) verdict found read h says is =
 
 -- ---- the first refusal of a message
 
-module _ (m : List ℕ) (head : first_fault (head_rows m) ≡ None) (first : section_fault m 9 28 identification_rows ≡ None) where
-  pub refused_grid : (fault : Fault) → section_fault m (grid_start m) 6 grid_rows ≡ Some fault → verdict_1 m ≡ verdicts.Refused fault
+module _ (m : List ℕ) (head : first_fault (head_rules m) ≡ None) (first : section_fault m 9 28 identification_rules ≡ None) where
+  pub refused_grid : (fault : Fault) → section_fault m (grid_start m) 6 grid_rules ≡ Some fault → verdict_1 m ≡ verdicts.Refused fault
   refused_grid fault e =
       some_refused (message_fault m) (total_length_1 m) fault
-      (some_later (first_fault (head_rows m)) (from_first m) fault head
-      (some_later (section_fault m 9 28 identification_rows) (from_grid m) fault first
-      (some_first (section_fault m (grid_start m) 6 grid_rows) (from_bitmap m) fault e)))
+      (some_later (first_fault (head_rules m)) (from_first m) fault head
+      (some_later (section_fault m 9 28 identification_rules) (from_grid m) fault first
+      (some_first (section_fault m (grid_start m) 6 grid_rules) (from_bitmap m) fault e)))
 
-  module _ (second : section_fault m (grid_start m) 6 grid_rows ≡ None) where
+  module _ (second : section_fault m (grid_start m) 6 grid_rules ≡ None) where
     later : (fault : Fault) → from_bitmap m tt ≡ Some fault → verdict_1 m ≡ verdicts.Refused fault
     later fault e =
         some_refused (message_fault m) (total_length_1 m) fault
-        (some_later (first_fault (head_rows m)) (from_first m) fault head
-        (some_later (section_fault m 9 28 identification_rows) (from_grid m) fault first
-        (some_later (section_fault m (grid_start m) 6 grid_rows) (from_bitmap m) fault second e)))
+        (some_later (first_fault (head_rules m)) (from_first m) fault head
+        (some_later (section_fault m 9 28 identification_rules) (from_grid m) fault first
+        (some_later (section_fault m (grid_start m) 6 grid_rules) (from_bitmap m) fault second e)))
 
     pub refused_bitmap : (fault : Fault) → bitmap_fault m ≡ Some fault → verdict_1 m ≡ verdicts.Refused fault
     refused_bitmap fault e = later fault (some_first (bitmap_fault m) (from_data m) fault e)
 
-    pub refused_data : (fault : Fault) → bitmap_fault m ≡ None → section_fault m (data_start m) 11 (data_rows (values_of m)) ≡ Some fault
+    pub refused_data : (fault : Fault) → bitmap_fault m ≡ None → section_fault m (data_start m) 11 (data_rules (values_of m)) ≡ Some fault
         → verdict_1 m ≡ verdicts.Refused fault
     refused_data fault third e =
         later fault (some_later (bitmap_fault m) (from_data m) fault third
-        (some_first (section_fault m (data_start m) 11 (data_rows (values_of m))) (from_end m) fault e))
+        (some_first (section_fault m (data_start m) 11 (data_rules (values_of m))) (from_end m) fault e))
 
-    pub refused_end : (fault : Fault) → bitmap_fault m ≡ None → section_fault m (data_start m) 11 (data_rows (values_of m)) ≡ None
-        → first_fault (end_rows m (end_start m)) ≡ Some fault → verdict_1 m ≡ verdicts.Refused fault
+    pub refused_end : (fault : Fault) → bitmap_fault m ≡ None → section_fault m (data_start m) 11 (data_rules (values_of m)) ≡ None
+        → first_fault (end_rules m (end_start m)) ≡ Some fault → verdict_1 m ≡ verdicts.Refused fault
     refused_end fault third fourth e =
         later fault (some_later (bitmap_fault m) (from_data m) fault third
-        (some_later (section_fault m (data_start m) 11 (data_rows (values_of m))) (from_end m) fault fourth e))
+        (some_later (section_fault m (data_start m) 11 (data_rules (values_of m))) (from_end m) fault fourth e))
 
-    pub none_refused : bitmap_fault m ≡ None → section_fault m (data_start m) 11 (data_rows (values_of m)) ≡ None
-        → first_fault (end_rows m (end_start m)) ≡ None → message_fault m ≡ None
+    pub none_refused : bitmap_fault m ≡ None → section_fault m (data_start m) 11 (data_rules (values_of m)) ≡ None
+        → first_fault (end_rules m (end_start m)) ≡ None → message_fault m ≡ None
     none_refused third fourth e =
-        none_or (first_fault (head_rows m)) (from_first m) head
-        (none_or (section_fault m 9 28 identification_rows) (from_grid m) first
-        (none_or (section_fault m (grid_start m) 6 grid_rows) (from_bitmap m) second
-        (none_or (bitmap_fault m) (from_data m) third
-        (none_or (section_fault m (data_start m) 11 (data_rows (values_of m))) (from_end m) fourth e))))
+        none_after (first_fault (head_rules m)) (from_first m) head
+        (none_after (section_fault m 9 28 identification_rules) (from_grid m) first
+        (none_after (section_fault m (grid_start m) 6 grid_rules) (from_bitmap m) second
+        (none_after (bitmap_fault m) (from_data m) third
+        (none_after (section_fault m (data_start m) 11 (data_rules (values_of m))) (from_end m) fourth e))))
 
 -- ---- where the sections begin
 
@@ -136,7 +137,7 @@ end_place m s start at h =
 pub without_bitmap : (m : List ℕ) (start points : ℕ) → has_bitmap m ≡ false → start ≡ bitmap_start m → points ≡ points_of m
     → 1 ≤ start → start ≤ length m + 1 → start + 3 ≤ total_length_1 m → (bitmap_fault m ≡ None) × HasBitmap m None points start
 without_bitmap m start points off at count low there room = (
-  ap (λ b. choose b (λ _. section_fault m (bitmap_start m) 6 (bitmap_rows (points_of m))) (λ _. None)) off,
+  ap (λ b. choose b (λ _. section_fault m (bitmap_start m) 6 (bitmap_rules (points_of m))) (λ _. None)) off,
   record {
     section = sym (bitmap-plain m off);
     present_are = count ∙ (sym (present_count-replicate (points_of m) true) ∙ ap (λ s. present_count (mask_of s (points_of m))) (sym (bitmap-plain m off)));
@@ -148,13 +149,13 @@ without_bitmap m start points off at count low there room = (
 )
 
 pub bitmap_chosen : (m : List ℕ) (start points : ℕ) → has_bitmap m ≡ true → start ≡ bitmap_start m → points ≡ points_of m
-    → bitmap_fault m ≡ section_fault m start 6 (bitmap_rows points)
+    → bitmap_fault m ≡ section_fault m start 6 (bitmap_rules points)
 bitmap_chosen m start points on at count =
-    ap (λ b. choose b (λ _. section_fault m (bitmap_start m) 6 (bitmap_rows (points_of m))) (λ _. None)) on
-    ∙ ap (λ q. section_fault m q 6 (bitmap_rows (points_of m))) (sym at) ∙ ap (λ k. section_fault m start 6 (bitmap_rows k)) (sym count)
+    ap (λ b. choose b (λ _. section_fault m (bitmap_start m) 6 (bitmap_rules (points_of m))) (λ _. None)) on
+    ∙ ap (λ q. section_fault m q 6 (bitmap_rules (points_of m))) (sym at) ∙ ap (λ k. section_fault m start 6 (bitmap_rules k)) (sym count)
 
 pub with_bitmap : (m s : List ℕ) (start points present behind : ℕ) → has_bitmap m ≡ true → start ≡ bitmap_start m → points ≡ points_of m
-    → section_fault m start 6 (bitmap_rows points) ≡ None → Stands m start 6 s → present ≡ present_count (mask_of (Some s) points) → behind ≡ start + length s
+    → section_fault m start 6 (bitmap_rules points) ≡ None → Stands m start 6 s → present ≡ present_count (mask_of (Some s) points) → behind ≡ start + length s
     → (bitmap_fault m ≡ None) × HasBitmap m (Some s) present behind
 with_bitmap m s start points present behind on at count none h counted is =
     let section : s ≡ section_at m (bitmap_start m) = h.section ∙ ap (section_at m) at in
@@ -200,13 +201,13 @@ keeps_front m s1 s2 s4 s3 points values total starts first e is_1 is_2 is_3 is_4
     }
 
 -- where no section is refused at the octets at which they were read, the message is accepted
-pub all_passed : (m : List ℕ) (q2 q4 q5 present total : ℕ) → first_fault (head_rows m) ≡ None → section_fault m 9 28 identification_rows ≡ None
-    → q2 ≡ grid_start m → section_fault m q2 6 grid_rows ≡ None → bitmap_fault m ≡ None
-    → q4 ≡ data_start m → present ≡ values_of m → section_fault m q4 11 (data_rows present) ≡ None
-    → q5 ≡ end_start m → first_fault (end_rows m q5) ≡ None → total ≡ total_length_1 m → verdict_1 m ≡ verdicts.Accepted total
+pub all_passed : (m : List ℕ) (q2 q4 q5 present total : ℕ) → first_fault (head_rules m) ≡ None → section_fault m 9 28 identification_rules ≡ None
+    → q2 ≡ grid_start m → section_fault m q2 6 grid_rules ≡ None → bitmap_fault m ≡ None
+    → q4 ≡ data_start m → present ≡ values_of m → section_fault m q4 11 (data_rules present) ≡ None
+    → q5 ≡ end_start m → first_fault (end_rules m q5) ≡ None → total ≡ total_length_1 m → verdict_1 m ≡ verdicts.Accepted total
 all_passed m q2 q4 q5 present total head first at_2 second third at_4 counted fourth at_5 end stated =
     none_accepted (message_fault m) (total_length_1 m)
-    (none_refused m head first (ap (λ q. section_fault m q 6 grid_rows) (sym at_2) ∙ second) third
-    (ap₂ (λ q k. section_fault m q 11 (data_rows k)) (sym at_4) (sym counted) ∙ fourth)
-    (ap (λ q. first_fault (end_rows m q)) (sym at_5) ∙ end))
+    (none_refused m head first (ap (λ q. section_fault m q 6 grid_rules) (sym at_2) ∙ second) third
+    (ap₂ (λ q k. section_fault m q 11 (data_rules k)) (sym at_4) (sym counted) ∙ fourth)
+    (ap (λ q. first_fault (end_rules m q)) (sym at_5) ∙ end))
     ∙ ap verdicts.Accepted (sym stated)

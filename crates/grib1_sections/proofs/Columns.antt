@@ -4,15 +4,15 @@ use Rattle.std.proofs.lemmas.List.{length-replicate}
 use Rattle.grib_bits.specs.Bits.{bits}
 use Rattle.grib_bits.specs.Plain.{plain}
 use Rattle.grib_bits.proofs.OctetBits.{length-bits}
-use Rattle.grib_base.specs.Rows.{first_fault}
+use Rattle.grib_base.specs.Rules.{first_fault}
 use Rattle.grib_bitmap.specs.Mask.{present_count}
 use Rattle.grib_bitmap.proofs.Runs.{present_count-replicate}
 use Rattle.grib_packing.specs.Column.{points_with_mask}
 use Rattle.grib_packing.specs.declared.column.Point.{Point}
 use Rattle.grib_packing.specs.declared.column.Point.TheVariants.{Scaled}
 use Rattle.grib_packing.specs.declared.column.Column.{Column}
-use Rattle.grib_simple.proofs.Masked.{with_full_mask}
-use Rattle.grib1_sections.specs.Bitmap.{bitmap_rows, mask_of}
+use Rattle.grib_simple_reading.proofs.Masked.{with_full_mask}
+use Rattle.grib1_sections.specs.Bitmap.{bitmap_rules, mask_of}
 use Rattle.grib1_sections.specs.Grammar.{IsBitmap}
 use Rattle.grib1_sections.specs.Acceptance.{bitmap, points_of}
 use Rattle.grib1_sections.specs.Message.{SectionsPass}
@@ -40,13 +40,13 @@ length-own : (s : List ℕ) (points : ℕ) → points + 48 ≤ 8 * length s → 
 length-own s points room = length-take-le points (bits (drop 6 s)) (omega (arith, length-bits (drop 6 s), length-drop 6 s))
 
 -- a Section 3 that is not refused has a bit for each point
-room_in : (points : ℕ) (s : List ℕ) → first_fault (bitmap_rows points s) ≡ None → points + 48 ≤ 8 * length s
-room_in points s none = ltb-false (8 * length s) (points + 48) (passes_from_none (bitmap_rows points s) none).1.0
+room_in : (points : ℕ) (s : List ℕ) → first_fault (bitmap_rules points s) ≡ None → points + 48 ≤ 8 * length s
+room_in points s none = ltb-false (8 * length s) (points + 48) (passes_from_none (bitmap_rules points s) none).1.0
 
 -- so has the mask
 pub length-mask : (points : ℕ) (s : Option (List ℕ)) → IsBitmap points s → length (mask_of s points) ≡ points
 length-mask points None h = length-replicate points true
-length-mask points (Some s) h = length-own s points (room_in points s h.rows_hold)
+length-mask points (Some s) h = length-own s points (room_in points s h.rules_hold)
 
 -- and the column
 length-points_with_mask : (presence : List Bool) (entries : List Point) → length (points_with_mask presence entries) ≡ length presence

@@ -1,39 +1,39 @@
 -- What is accepted rests on the octets of the message alone.
 use Rattle.std.proofs.Common.{◌≡◌, ℕ, ◌+◌, ◌≤◌, true, List, length, take, ◌==◌, sym, ap, ◌∙◌, arith, subst, length-take-le, take-take}
 use Rattle.grib_bits.specs.Octets.{octets}
-use Rattle.grib_base.specs.Rows.{Row, first_fault}
+use Rattle.grib_base.specs.Rules.{Rule, first_fault}
 use Rattle.grib2_sections.specs.Verdict.{Accepted}
 use Rattle.grib2_sections.specs.Head.{indicator, edition, total_length_1}
 use Rattle.grib2_sections.specs.Frame.{ends_at}
-use Rattle.grib1_sections.specs.Identification.{identification_rows}
-use Rattle.grib1_sections.specs.Grid.{grid_rows}
-use Rattle.grib1_sections.specs.Bitmap.{bitmap_rows}
-use Rattle.grib1_sections.specs.Data.{data_rows}
+use Rattle.grib1_sections.specs.Identification.{identification_rules}
+use Rattle.grib1_sections.specs.Grid.{grid_rules}
+use Rattle.grib1_sections.specs.Bitmap.{bitmap_rules}
+use Rattle.grib1_sections.specs.Data.{data_rules}
 use Rattle.grib1_sections.specs.Acceptance.{message_fault, verdict_1, has_bitmap, grid_start, bitmap_start, data_start, end_start, points_of, values_of}
 use Rattle.grib1_sections.specs.Message.{IsMessage1}
-use Rattle.grib1_sections.proofs.Rows.{accepted_none, none_accepted}
+use Rattle.grib1_sections.proofs.Verdicts.{accepted_none, none_accepted}
 use Rattle.grib1_sections.proofs.Agreeing.{Agree, Inside, agree_front, same_octets, same_section}
 use Rattle.grib1_sections.proofs.Places.{same_flag, same_grid_start, same_bitmap_start, same_points, same_data_start, same_values, same_end_start}
 use Rattle.grib1_sections.proofs.Parts.{Whole, Parts, parts_from_none, none_from_parts, parts_inside}
 
 -- ---- octets that agree as far as the message goes
 
-whole_moved : (n : ℕ) (u w : List ℕ) (q p least : ℕ) (rows : List ℕ → List Row) → Agree n u w → Inside n u q → p ≡ q
-    → total_length_1 w ≡ total_length_1 u → Whole u q least rows → Whole w p least rows
-whole_moved n u w q p least rows h i place total f =
+whole_moved : (n : ℕ) (u w : List ℕ) (q p least : ℕ) (rules : List ℕ → List Rule) → Agree n u w → Inside n u q → p ≡ q
+    → total_length_1 w ≡ total_length_1 u → Whole u q least rules → Whole w p least rules
+whole_moved n u w q p least rules h i place total f =
     let same : octets w q (q + 2) ≡ octets u q (q + 2) = same_octets n u w q (q + 2) h i.low (omega arith) i.begins in
-    let At : ℕ → Type 0 = λ k. Whole w k least rows in
+    let At : ℕ → Type 0 = λ k. Whole w k least rules in
     subst At (sym place) (record {
       begins = omega (arith, i.begins, h.long_w);
       least_is = omega (arith, same, f.least_is);
       room = omega (arith, same, total, f.room);
       there = omega (arith, same, i.ends, h.long_w);
-      rows_hold = ap (λ s. first_fault (rows s)) (same_section n u w q h i) ∙ f.rows_hold;
+      rules_hold = ap (λ s. first_fault (rules s)) (same_section n u w q h i) ∙ f.rules_hold;
     })
 
-rows_moved : (m : List ℕ) (q least : ℕ) (rows other : List ℕ → List Row) → other ≡ rows → Whole m q least rows → Whole m q least other
-rows_moved m q least rows other e f =
-    let By : (List ℕ → List Row) → Type 0 = λ r. Whole m q least r in
+rules_moved : (m : List ℕ) (q least : ℕ) (rules other : List ℕ → List Rule) → other ≡ rules → Whole m q least rules → Whole m q least other
+rules_moved m q least rules other e f =
+    let By : (List ℕ → List Rule) → Type 0 = λ r. Whole m q least r in
     subst By (sym e) f
 
 parts_moved : (n : ℕ) (u w : List ℕ) → Agree n u w → 8 ≤ n → total_length_1 u ≤ n → Parts u → Parts w
@@ -46,16 +46,16 @@ parts_moved n u w h eight fits p =
     record {
       long = omega (arith, h.long_w, eight);
       least = omega (arith, total, p.least);
-      first = whole_moved n u w 9 9 28 identification_rows h i.before.before.first (omega arith) total p.first;
-      second = whole_moved n u w (grid_start u) (grid_start w) 6 grid_rows h i.before.before.second (same_grid_start n u w h i.before.before.first) total p.second;
+      first = whole_moved n u w 9 9 28 identification_rules h i.before.before.first (omega arith) total p.first;
+      second = whole_moved n u w (grid_start u) (grid_start w) 6 grid_rules h i.before.before.second (same_grid_start n u w h i.before.before.first) total p.second;
       third = λ on.
           let flagged : has_bitmap u ≡ true = sym (same_flag n u w h i.before.before.first) ∙ on in
-          rows_moved w (bitmap_start w) 6 (bitmap_rows (points_of u)) (bitmap_rows (points_of w)) (ap bitmap_rows (same_points n u w h i.before.before))
-          (whole_moved n u w (bitmap_start u) (bitmap_start w) 6 (bitmap_rows (points_of u)) h (i.before.third flagged)
+          rules_moved w (bitmap_start w) 6 (bitmap_rules (points_of u)) (bitmap_rules (points_of w)) (ap bitmap_rules (same_points n u w h i.before.before))
+          (whole_moved n u w (bitmap_start u) (bitmap_start w) 6 (bitmap_rules (points_of u)) h (i.before.third flagged)
           (same_bitmap_start n u w h i.before.before) total (p.third flagged));
       fourth =
-          rows_moved w (data_start w) 11 (data_rows (values_of u)) (data_rows (values_of w)) (ap data_rows (same_values n u w h i.before))
-          (whole_moved n u w (data_start u) (data_start w) 11 (data_rows (values_of u)) h i.fourth (same_data_start n u w h i.before) total p.fourth);
+          rules_moved w (data_start w) 11 (data_rules (values_of u)) (data_rules (values_of w)) (ap data_rules (same_values n u w h i.before))
+          (whole_moved n u w (data_start u) (data_start w) 11 (data_rules (values_of u)) h i.fourth (same_data_start n u w h i.before) total p.fourth);
       there = omega (arith, end, i.whole, fits, h.long_w);
       ends = ap (λ q. ends_at w q) end ∙ (ap (λ k. k == 926365495) mark ∙ p.ends);
       last = omega (arith, end, total, p.last);

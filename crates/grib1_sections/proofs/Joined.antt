@@ -1,27 +1,28 @@
 -- An accepted message is its sections one after another, and sections that are joined are accepted.
-use Rattle.std.proofs.Common.{◌≡◌, ℕ, zero, suc, ◌+◌, ◌-◌, ◌*◌, ◌<◌, ◌≤◌, Bool, true, false, ◌==◌, Option, Some, None, List, [], ◌∷◌, ◌++◌, length, take, drop, All, nat_lt, refl, sym, ap, ap₂, ◌∙◌, subst, arith, append_assoc, append-nil, length-append, length-drop, length-take-le, take-append-drop, take-take, take_all, drop-drop, take_at, drop_at, ltb-false, eqb-true, eq-eqb}
+use Rattle.std.proofs.Common.{◌≡◌, ℕ, zero, suc, ◌+◌, ◌-◌, ◌<◌, ◌≤◌, Bool, true, false, ◌==◌, Option, Some, None, List, [], ◌∷◌, ◌++◌, length, take, drop, All, nat_lt, refl, sym, ap, ap₂, ◌∙◌, subst, arith, append_assoc, append-nil, length-append, length-drop, length-take-le, take-append-drop, take-take, take_all, drop-drop, take_at, drop_at, ltb-false, eqb-true, eq-eqb}
 use Rattle.std.proofs.lemmas.Bool.{or_parts}
 use Rattle.std.proofs.lemmas.List.{take-append-le}
 use Rattle.std.proofs.lemmas.List.Elements.{All-drop}
 use Rattle.std.specs.Prelude.{unwrap_or, is_some}
 use Rattle.grib_bits.specs.Octets.{num_on, octets, octet_list}
-use Rattle.grib_base.specs.Rows.{Row, first_fault}
+use Rattle.grib_base.specs.Rules.{Rule, first_fault}
 use Rattle.grib2_sections.specs.Verdict.{Accepted}
 use Rattle.grib2_sections.specs.Head.{indicator, end_mark, edition, total_length_1}
 use Rattle.grib2_sections.specs.Frame.{ends_at}
 use Rattle.grib_bits.proofs.Encoding.{octets-within}
+use Rattle.grib_bits.proofs.Counted.{mark_number}
 use Rattle.grib_bitmap.specs.Mask.{present_count}
 use Rattle.grib1_sections.specs.Frame.{section_length, section_at, after}
-use Rattle.grib1_sections.specs.Identification.{identification_rows, flags_bitmap}
-use Rattle.grib1_sections.specs.Grid.{grid_rows, grid_points}
-use Rattle.grib1_sections.specs.Bitmap.{bitmap_rows, mask_of}
-use Rattle.grib1_sections.specs.Data.{data_rows}
+use Rattle.grib1_sections.specs.Identification.{identification_rules, flags_bitmap}
+use Rattle.grib1_sections.specs.Grid.{grid_rules, grid_points}
+use Rattle.grib1_sections.specs.Bitmap.{bitmap_rules, mask_of}
+use Rattle.grib1_sections.specs.Data.{data_rules}
 use Rattle.grib1_sections.specs.Acceptance.{message_fault, verdict_1, has_bitmap, identification, grid, bitmap, data_section, grid_start, bitmap_start, data_start, end_start, points_of, values_of}
 use Rattle.grib1_sections.specs.Grammar.{Sections, IsSection, IsBitmap, joined_sections, Grammar1}
 use Rattle.grib1_sections.specs.Message.{IsMessage1, SectionsPass}
 use Rattle.grib_base.proofs.Passing.{passes_from_none}
 use Rattle.grib_base.specs.declared.limits.TheConstants.{MOST_POINTS}
-use Rattle.grib1_sections.proofs.Rows.{none_accepted}
+use Rattle.grib1_sections.proofs.Verdicts.{none_accepted}
 use Rattle.grib1_sections.proofs.Places.{grid_start-is, bitmap_start-is, data_start-flagged, data_start-plain, end_start-is, bitmap-flagged, bitmap-plain}
 use Rattle.grib1_sections.proofs.Parts.{Whole, Parts, parts_inside, none_from_parts}
 use Rattle.grib1_sections.proofs.Stays.{accepted_stays}
@@ -64,21 +65,21 @@ stands m q low three there =
       joined = sym (take-append-drop l (from q m)) ∙ ap₂ (λ xs ys. xs ++ ys) (sym is) rest;
     }
 
-whole_stands : (m : List ℕ) (q least : ℕ) (rows : List ℕ → List Row) → 1 ≤ q → 3 ≤ least → Whole m q least rows → Stands m q
-whole_stands m q least rows low three w = stands m q low (omega (arith, three, w.least_is)) w.there
+whole_stands : (m : List ℕ) (q least : ℕ) (rules : List ℕ → List Rule) → 1 ≤ q → 3 ≤ least → Whole m q least rules → Stands m q
+whole_stands m q least rules low three w = stands m q low (omega (arith, three, w.least_is)) w.there
 
-is_section : (m : List ℕ) (q least : ℕ) (rows : List ℕ → List Row) → 1 ≤ q → 3 ≤ least → Whole m q least rows → IsSection least rows (section_at m q)
-is_section m q least rows low three w =
-    let s = whole_stands m q least rows low three w in
-    record { length_stands = s.states; long = omega (arith, s.as_long, w.least_is); rows_hold = w.rows_hold }
+is_section : (m : List ℕ) (q least : ℕ) (rules : List ℕ → List Rule) → 1 ≤ q → 3 ≤ least → Whole m q least rules → IsSection least rules (section_at m q)
+is_section m q least rules low three w =
+    let s = whole_stands m q least rules low three w in
+    record { length_stands = s.states; long = omega (arith, s.as_long, w.least_is); rules_hold = w.rules_hold }
 
 -- ---- the sections of an accepted message
 
-is_bitmap_by : (m : List ℕ) (b : Bool) → has_bitmap m ≡ b → 1 ≤ bitmap_start m → (has_bitmap m ≡ true → Whole m (bitmap_start m) 6 (bitmap_rows (points_of m)))
+is_bitmap_by : (m : List ℕ) (b : Bool) → has_bitmap m ≡ b → 1 ≤ bitmap_start m → (has_bitmap m ≡ true → Whole m (bitmap_start m) 6 (bitmap_rules (points_of m)))
     → IsBitmap (points_of m) (bitmap m)
 is_bitmap_by m true e low w =
     let Is : Option (List ℕ) → Type 0 = IsBitmap (points_of m) in
-    subst Is (sym (bitmap-flagged m e)) (is_section m (bitmap_start m) 6 (bitmap_rows (points_of m)) low (omega arith) (w e))
+    subst Is (sym (bitmap-flagged m e)) (is_section m (bitmap_start m) 6 (bitmap_rules (points_of m)) low (omega arith) (w e))
 is_bitmap_by m false e low w =
     let Is : Option (List ℕ) → Type 0 = IsBitmap (points_of m) in
     subst Is (sym (bitmap-plain m e)) tt
@@ -92,10 +93,10 @@ sections_pass m p =
     let i = parts_inside (total_length_1 m) m p (omega arith) in
     let low : 1 ≤ bitmap_start m = omega (arith, bitmap_start-is m, i.before.before.second.low) in
     record {
-      identification_stands = is_section m 9 28 identification_rows (omega arith) (omega arith) p.first;
-      grid_stands = is_section m (grid_start m) 6 grid_rows i.before.before.second.low (omega arith) p.second;
+      identification_stands = is_section m 9 28 identification_rules (omega arith) (omega arith) p.first;
+      grid_stands = is_section m (grid_start m) 6 grid_rules i.before.before.second.low (omega arith) p.second;
       bitmap_stands = is_bitmap_by m (has_bitmap m) refl low p.third;
-      data_stands = is_section m (data_start m) 11 (data_rows (values_of m)) i.fourth.low (omega arith) p.fourth;
+      data_stands = is_section m (data_start m) 11 (data_rules (values_of m)) i.fourth.low (omega arith) p.fourth;
     }
 
 pub message_sections_pass : (m : List ℕ) → IsMessage1 m → SectionsPass m
@@ -105,25 +106,15 @@ some_from : (n : ℕ) → (n == 0) ≡ false → 1 ≤ n
 some_from zero e = cc
 some_from (suc n) e = omega arith
 
--- the number of points passes its row
+-- the number of points passes its rule
 pub points_within : (m : List ℕ) → IsMessage1 m → (1 ≤ points_of m) × (points_of m ≤ MOST_POINTS)
 points_within m h =
     let s = (message_sections_pass m h).grid_stands in
-    let p = passes_from_none (grid_rows (grid m)) s.rows_hold in
+    let p = passes_from_none (grid_rules (grid m)) s.rules_hold in
     let both = or_parts (points_of m == 0) (nat_lt MOST_POINTS (points_of m)) p.1.1.1.1.1.1.0 in
     (some_from (points_of m) both.0, ltb-false MOST_POINTS (points_of m) both.1)
 
 -- ---- what is accepted is in the grammar
-
--- four numbers below 256 that make the number of `7777`
-mark_number : (a b c d : ℕ) → a < 256 → b < 256 → c < 256 → d < 256
-    → (((0 * 256 + a) * 256 + b) * 256 + c) * 256 + d ≡ 926365495
-    → (a ≡ 55) × (b ≡ 55) × (c ≡ 55) × (d ≡ 55)
-mark_number a b c d ha hb hc hd e =
-    let first : a ≡ 55 = omega arith in
-    let second : b ≡ 55 = omega arith in
-    let third : c ≡ 55 = omega arith in
-    (first, second, third, omega arith)
 
 -- so four octets that make it are `7777`
 mark_from_number : (left : List ℕ) → length left ≡ 4 → All (λ octet. octet < 256) left → num_on 0 left ≡ 926365495 → left ≡ end_mark
@@ -151,14 +142,14 @@ end_stands m small low whole ends =
     mark_from_number (from q m) long (All-drop (λ octet. octet < 256) (q - 1) m small)
     (ap (num_on 0) (sym four) ∙ eqb-true (octets m q (q + 3)) 926365495 ends)
 
-next : (m : List ℕ) (q p least : ℕ) (rows : List ℕ → List Row) → 1 ≤ q → 3 ≤ least → Whole m q least rows → p ≡ after m q → from q m ≡ section_at m q ++ from p m
-next m q p least rows low three w place =
-    (whole_stands m q least rows low three w).joined ∙ ap (λ k. section_at m q ++ from k m) (sym place)
+next : (m : List ℕ) (q p least : ℕ) (rules : List ℕ → List Rule) → 1 ≤ q → 3 ≤ least → Whole m q least rules → p ≡ after m q → from q m ≡ section_at m q ++ from p m
+next m q p least rules low three w place =
+    (whole_stands m q least rules low three w).joined ∙ ap (λ k. section_at m q ++ from k m) (sym place)
 
-bitmap_next : (m : List ℕ) (b : Bool) → has_bitmap m ≡ b → 1 ≤ bitmap_start m → (has_bitmap m ≡ true → Whole m (bitmap_start m) 6 (bitmap_rows (points_of m)))
+bitmap_next : (m : List ℕ) (b : Bool) → has_bitmap m ≡ b → 1 ≤ bitmap_start m → (has_bitmap m ≡ true → Whole m (bitmap_start m) 6 (bitmap_rules (points_of m)))
     → from (bitmap_start m) m ≡ unwrap_or (bitmap m) [] ++ from (data_start m) m
 bitmap_next m true e low w =
-    next m (bitmap_start m) (data_start m) 6 (bitmap_rows (points_of m)) low (omega arith) (w e) (data_start-flagged m e)
+    next m (bitmap_start m) (data_start m) 6 (bitmap_rules (points_of m)) low (omega arith) (w e) (data_start-flagged m e)
     ∙ ap (λ s. unwrap_or s [] ++ from (data_start m) m) (sym (bitmap-flagged m e))
 bitmap_next m false e low w =
     ap (λ q. from q m) (sym (data_start-plain m e)) ∙ ap (λ s. unwrap_or s [] ++ from (data_start m) m) (sym (bitmap-plain m e))
@@ -174,10 +165,10 @@ joined_parts : (m : List ℕ) → All (λ octet. octet < 256) m → total_length
 joined_parts m small stated p =
     let i = parts_inside (length m) m p (omega (arith, stated)) in
     let low : 1 ≤ bitmap_start m = omega (arith, bitmap_start-is m, i.before.before.second.low) in
-    let first = next m 9 (grid_start m) 28 identification_rows (omega arith) (omega arith) p.first (grid_start-is m) in
-    let second = next m (grid_start m) (bitmap_start m) 6 grid_rows i.before.before.second.low (omega arith) p.second (bitmap_start-is m) in
+    let first = next m 9 (grid_start m) 28 identification_rules (omega arith) (omega arith) p.first (grid_start-is m) in
+    let second = next m (grid_start m) (bitmap_start m) 6 grid_rules i.before.before.second.low (omega arith) p.second (bitmap_start-is m) in
     let third = bitmap_next m (has_bitmap m) refl low p.third in
-    let fourth = next m (data_start m) (end_start m) 11 (data_rows (values_of m)) i.fourth.low (omega arith) p.fourth (end_start-is m) in
+    let fourth = next m (data_start m) (end_start m) 11 (data_rules (values_of m)) i.fourth.low (omega arith) p.fourth (end_start-is m) in
     let end = end_stands m small i.low (i.whole ∙ stated) p.ends in
     let a = identification m in
     let b = grid m in
@@ -227,20 +218,20 @@ found m before s rest q joined place states three =
       section_is = section_is m q (omega (arith, place)) ∙ (ap₂ (λ k xs. take k xs) long behind ∙ take_at s rest (length s) refl);
     }
 
-found_whole : (m s : List ℕ) (q least : ℕ) (rows : List ℕ → List Row) → Found m q s → IsSection least rows s → 6 ≤ least → 1 ≤ q
-    → q + length s + 3 ≤ length m → total_length_1 m ≡ length m → Whole m q least rows
-found_whole m s q least rows f is some low room stated = record {
+found_whole : (m s : List ℕ) (q least : ℕ) (rules : List ℕ → List Rule) → Found m q s → IsSection least rules s → 6 ≤ least → 1 ≤ q
+    → q + length s + 3 ≤ length m → total_length_1 m ≡ length m → Whole m q least rules
+found_whole m s q least rules f is some low room stated = record {
   begins = omega (arith, is.long, some, room);
   least_is = omega (arith, f.length_is, is.long);
   room = omega (arith, f.length_is, room, stated, low);
   there = omega (arith, f.length_is, room, low);
-  rows_hold = ap (λ x. first_fault (rows x)) f.section_is ∙ is.rows_hold;
+  rules_hold = ap (λ x. first_fault (rules x)) f.section_is ∙ is.rules_hold;
 }
 
 record BitmapFound (m : List ℕ) (c : Option (List ℕ)) : Type 0 where
   pub found_is : bitmap m ≡ c
   pub place : data_start m ≡ bitmap_start m + length (unwrap_or c [])
-  pub whole : has_bitmap m ≡ true → Whole m (bitmap_start m) 6 (bitmap_rows (points_of m))
+  pub whole : has_bitmap m ≡ true → Whole m (bitmap_start m) 6 (bitmap_rules (points_of m))
 
 bitmap_found : (m before rest : List ℕ) (c : Option (List ℕ)) → is_some c ≡ has_bitmap m → m ≡ before ++ (unwrap_or c [] ++ rest)
     → bitmap_start m ≡ length before + 1 → IsBitmap (points_of m) c → bitmap_start m + length (unwrap_or c []) + 3 ≤ length m → total_length_1 m ≡ length m
@@ -256,7 +247,7 @@ bitmap_found m before rest (Some s) flagged joined place is room stated =
     let f = found m before s rest (bitmap_start m) joined place is.length_stands (omega (arith, is.long)) in record {
       found_is = bitmap-flagged m on ∙ ap Some f.section_is;
       place = omega (arith, data_start-flagged m on, f.length_is);
-      whole = λ _. found_whole m s (bitmap_start m) 6 (bitmap_rows (points_of m)) f is (omega arith) (omega (arith, place)) room stated;
+      whole = λ _. found_whole m s (bitmap_start m) 6 (bitmap_rules (points_of m)) f is (omega arith) (omega (arith, place)) room stated;
     }
 
 -- a message in the grammar
@@ -312,8 +303,8 @@ rejoined m sections g =
     let start_5 : end_start m ≡ 9 + length a + length b + length c + length d = omega (arith, end_start-is m, start_4, fourth.length_is) in
     let values : values_of m ≡ present_count (mask_of sections.bitmap (grid_points b)) =
     ap₂ (λ s k. present_count (mask_of s k)) third.found_is points in
-    let Rows : ℕ → Type 0 = λ k. IsSection 11 (data_rows k) d in
-    let data_is : IsSection 11 (data_rows (values_of m)) d = subst Rows (sym values) g.data_stands in
+    let Rows : ℕ → Type 0 = λ k. IsSection 11 (data_rules k) d in
+    let data_is : IsSection 11 (data_rules (values_of m)) d = subst Rows (sym values) g.data_stands in
     let mark : octets m (end_start m) (end_start m + 3) ≡ 926365495 =
     ap (λ xs. octets xs (end_start m) (end_start m + 3)) (at_5 ∙ ap (λ xs. ((((f ++ a) ++ b) ++ c) ++ d) ++ xs) (sym (append-nil end_mark)))
     ∙ octets-within ((((f ++ a) ++ b) ++ c) ++ d) end_mark [] (end_start m) (end_start m + 3) (omega (arith, start_5, size_5, eight)) (omega (arith, start_5, size_5, eight)) in
@@ -321,10 +312,10 @@ rejoined m sections g =
       parts = record {
         long = omega (arith, size, long_a);
         least = omega (arith, stated, size, long_a);
-        first = found_whole m a 9 28 identification_rows first g.identification_stands (omega arith) (omega arith) (omega (arith, size, eight, long_d)) stated;
-        second = found_whole m b (grid_start m) 6 grid_rows second g.grid_stands (omega arith) (omega (arith, start_2)) (omega (arith, start_2, size, eight, long_d)) stated;
+        first = found_whole m a 9 28 identification_rules first g.identification_stands (omega arith) (omega arith) (omega (arith, size, eight, long_d)) stated;
+        second = found_whole m b (grid_start m) 6 grid_rules second g.grid_stands (omega arith) (omega (arith, start_2)) (omega (arith, start_2, size, eight, long_d)) stated;
         third = third.whole;
-        fourth = found_whole m d (data_start m) 11 (data_rows (values_of m)) fourth data_is (omega arith) (omega (arith, start_4)) (omega (arith, start_4, size, eight)) stated;
+        fourth = found_whole m d (data_start m) 11 (data_rules (values_of m)) fourth data_is (omega arith) (omega (arith, start_4)) (omega (arith, start_4, size, eight)) stated;
         there = omega (arith, start_5, size, eight);
         ends = eq-eqb (octets m (end_start m) (end_start m + 3)) 926365495 mark;
         last = omega (arith, stated, start_5, size, eight);

@@ -7,5 +7,5 @@ pub mod Joined
 pub mod Listed
 pub mod Parts
 pub mod Places
-pub mod Rows
+pub mod Verdicts
 pub mod Stays

@@ -3,9 +3,9 @@ use Rattle.std.proofs.Common.{◌≡◌, ℕ, ◌+◌, ◌*◌, ◌<◌, ◌≤�
 use Rattle.std.specs.Option.{option_map_or}
 use Rattle.std.proofs.lemmas.Bool.{or_parts, not-false, ltb-true}
 use Rattle.std.specs.declared.option.Option.TheVariants.{Some}
-use Rattle.grib_base.specs.Rows.{first_fault}
+use Rattle.grib_base.specs.Rules.{first_fault}
 use Rattle.grib2_sections.specs.Template.{Template, is_template, least_length}
-use Rattle.grib1_sections.specs.Grid.{grid_types, grid_type, nv, list_place, nj, lists_rows, has_list, row_count, lists_end, grid_rows}
+use Rattle.grib1_sections.specs.Grid.{grid_types, grid_type, nv, list_place, nj, lists_rows, has_list, row_count, lists_end, grid_rules}
 use Rattle.grib1_sections.specs.Coordinates.{coordinate_count}
 use Rattle.grib1_sections.specs.Held.{HoldsLists}
 use Rattle.grib_base.proofs.Passing.{passes_from_none, second_fails}
@@ -32,14 +32,14 @@ at_least (t ∷ types) number bound h e = first_or (t.number == number) refl e (
 
 -- ---- the lists
 
-module _ (s : List ℕ) (none : first_fault (grid_rows s) ≡ None) where
+module _ (s : List ℕ) (none : first_fault (grid_rules s) ≡ None) where
   least : ℕ
   least = least_length grid_types (grid_type s)
 
   grid_long : 10 ≤ length s
   unfolding least
   grid_long =
-      let p = passes_from_none (grid_rows s) none in
+      let p = passes_from_none (grid_rules s) none in
       let known = not-false (is_template grid_types (grid_type s)) p.0 in
       let enough = at_least grid_types (grid_type s) 10 (omega arith, (omega arith, (omega arith, (omega arith, (omega arith, tt))))) known in
       omega (arith, ltb-false (length s) least p.1.0, enough)
@@ -51,7 +51,7 @@ module _ (s : List ℕ) (none : first_fault (grid_rows s) ≡ None) where
 
   lists_whole : has_list s ≡ true → ListsWhole
   lists_whole has =
-      let p = passes_from_none (grid_rows s) none in
+      let p = passes_from_none (grid_rules s) none in
       let after = not (nat_lt (least_length grid_types (grid_type s)) (list_place s)) in
       let within = nat_lt (length s) (lists_end s) in
       let both = or_parts after within (second_fails (has_list s) (after || within) p.1.1.1.1.1.0 has) in
@@ -66,10 +66,10 @@ module _ (s : List ℕ) (none : first_fault (grid_rows s) ≡ None) where
   counted true some = (refl, refl)
   counted false some = absurd (omega arith)
 
-  -- and so there is where the rows are listed
+  -- and so there is where the rules are listed
   listed : lists_rows s ≡ true → has_list s ≡ true
   listed rows =
-      let p = passes_from_none (grid_rows s) none in
+      let p = passes_from_none (grid_rules s) none in
       let there : (list_place s == 255) ≡ false = second_fails (lists_rows s) (list_place s == 255) p.1.1.1.1.0 rows in
       (λ i. not (there i) && (nat_lt 0 (nv s) || rows i)) ∙ last (nat_lt 0 (nv s))
     where

@@ -1,6 +1,6 @@
 -- Where the sections begin, in octets that agree as far as the sections go.
 use Rattle.std.proofs.Common.{◌≡◌, ℕ, Bool, true, false, cond, Some, None, List, refl, sym, ap, ◌∙◌}
-use Rattle.grib_base.specs.Rows.{choose}
+use Rattle.grib_base.specs.Rules.{choose}
 use Rattle.grib_bitmap.specs.Mask.{present_count}
 use Rattle.grib1_sections.specs.Frame.{section_at, after}
 use Rattle.grib1_sections.specs.Identification.{flags_bitmap}

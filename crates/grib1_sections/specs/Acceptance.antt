@@ -1,18 +1,18 @@
 -- Which octets are a message of edition 1, and why others are refused (WMO-No. 306, Volume I.2, FM 92
--- GRIB edition 1, in the profile of docs/PROFILE.md): the rows of Section 0, then, for each section in
--- turn, the rows of its frame and its own, then those of the End Section. The first row that fails
+-- GRIB edition 1, in the profile of docs/PROFILE.md): the rules of Section 0, then, for each section in
+-- turn, the rules of its frame and its own, then those of the End Section. The first rule that fails
 -- gives the refusal.
 use Rattle.std.specs.Prelude.{ℕ, Bool, cond, Option, Some, None, List}
 use Rattle.grib_base.specs.declared.fault.Fault.{Fault}
-use Rattle.grib_base.specs.Rows.{Row, first_fault, first_fault_at, choose}
+use Rattle.grib_base.specs.Rules.{Rule, first_fault, first_fault_at, choose, or_later}
 use Rattle.grib2_sections.specs.Verdict.{Verdict, Accepted, Refused}
-use Rattle.grib2_sections.specs.Head.{head_rows, total_length_1}
+use Rattle.grib2_sections.specs.Head.{head_rules, total_length_1}
 use Rattle.grib_bitmap.specs.Mask.{present_count}
-use Rattle.grib1_sections.specs.Frame.{frame_rows, end_rows, section_at, after}
-use Rattle.grib1_sections.specs.Identification.{identification_rows, flags_bitmap}
-use Rattle.grib1_sections.specs.Grid.{grid_rows, grid_points}
-use Rattle.grib1_sections.specs.Bitmap.{bitmap_rows, mask_of}
-use Rattle.grib1_sections.specs.Data.{data_rows}
+use Rattle.grib1_sections.specs.Frame.{frame_rules, end_rules, section_at, after}
+use Rattle.grib1_sections.specs.Identification.{identification_rules, flags_bitmap}
+use Rattle.grib1_sections.specs.Grid.{grid_rules, grid_points}
+use Rattle.grib1_sections.specs.Bitmap.{bitmap_rules, mask_of}
+use Rattle.grib1_sections.specs.Data.{data_rules}
 
 -- Where the sections begin: Section 1 at octet 9, each other one and the End Section behind the one
 -- before.
@@ -55,32 +55,27 @@ mask message = mask_of (bitmap message) (points_of message)
 abbrev pub values_of : List ℕ → ℕ
 values_of message = present_count (mask message)
 
--- the first refusal, or whatever comes after
-abbrev pub or_else : Option Fault → (Unit {0} → Option Fault) → Option Fault
-or_else (Some fault) later = Some fault
-or_else None later = later tt
-
--- the refusal of the section at octet q, by the rows of its frame and by its own
-abbrev pub section_fault : List ℕ → ℕ → ℕ → (List ℕ → List Row) → Option Fault
-section_fault message q least rows =
-    or_else (first_fault (frame_rows message q least)) (λ _. first_fault_at q (rows (section_at message q)))
+-- the refusal of the section at octet q, by the rules of its frame and by its own
+abbrev pub section_fault : List ℕ → ℕ → ℕ → (List ℕ → List Rule) → Option Fault
+section_fault message q least rules =
+    or_later (first_fault (frame_rules message q least)) (λ _. first_fault_at q (rules (section_at message q)))
 
 -- Section 3, where it is flagged
 abbrev pub bitmap_fault : List ℕ → Option Fault
 bitmap_fault message =
-    choose (has_bitmap message) (λ _. section_fault message (bitmap_start message) 6 (bitmap_rows (points_of message))) (λ _. None)
+    choose (has_bitmap message) (λ _. section_fault message (bitmap_start message) 6 (bitmap_rules (points_of message))) (λ _. None)
 
 -- the refusal of what comes after Section 0
 abbrev pub sections_fault : List ℕ → Option Fault
 sections_fault message =
-    or_else (section_fault message 9 28 identification_rows)
-    (λ _. or_else (section_fault message (grid_start message) 6 grid_rows)
-    (λ _. or_else (bitmap_fault message)
-    (λ _. or_else (section_fault message (data_start message) 11 (data_rows (values_of message)))
-    (λ _. first_fault (end_rows message (end_start message))))))
+    or_later (section_fault message 9 28 identification_rules)
+    (λ _. or_later (section_fault message (grid_start message) 6 grid_rules)
+    (λ _. or_later (bitmap_fault message)
+    (λ _. or_later (section_fault message (data_start message) 11 (data_rules (values_of message)))
+    (λ _. first_fault (end_rules message (end_start message))))))
 
 abbrev pub message_fault : List ℕ → Option Fault
-message_fault message = or_else (first_fault (head_rows message)) (λ _. sections_fault message)
+message_fault message = or_later (first_fault (head_rules message)) (λ _. sections_fault message)
 
 abbrev pub verdict_by : Option Fault → ℕ → Verdict
 verdict_by (Some fault) total = Refused fault

@@ -6,17 +6,17 @@ use Rattle.std.specs.Prelude.{ℕ, ◌+◌, ◌*◌, Bool, true, not, Option, So
 use Rattle.grib_bits.specs.Bits.{bits}
 use Rattle.grib_bits.specs.Octets.{octets}
 use Rattle.grib_base.specs.declared.fault.Reason.TheVariants.{BitmapIndicator, BitmapSize}
-use Rattle.grib_base.specs.Rows.{Row, row}
+use Rattle.grib_base.specs.Rules.{Rule, rule}
 
 abbrev pub bitmap_number : List ℕ → ℕ
 bitmap_number s = octets s 5 6
 
--- rows B3.1 and B3.2, where the grid has `points` points
-abbrev pub bitmap_rows : ℕ → List ℕ → List Row
-bitmap_rows points s =
+-- rules B3.1 and B3.2, where the grid has `points` points
+abbrev pub bitmap_rules : ℕ → List ℕ → List Rule
+bitmap_rules points s =
     let l = length s in
-    row (not (bitmap_number s == 0)) 5 BitmapIndicator (bitmap_number s)  -- B3.1
-    ∷ row (nat_lt (8 * l) (points + 48)) 1 BitmapSize l  -- B3.2
+    rule (not (bitmap_number s == 0)) 5 BitmapIndicator (bitmap_number s)  -- B3.1
+    ∷ rule (nat_lt (8 * l) (points + 48)) 1 BitmapSize l  -- B3.2
     ∷ []
 
 -- which of this number of grid points are present, by this Section 3 or without one

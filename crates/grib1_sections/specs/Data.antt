@@ -6,7 +6,7 @@ use Rattle.std.specs.Prelude.{ℕ, ◌+◌, ◌*◌, List, [], ◌∷◌, length
 use Rattle.grib_bits.specs.Bits.{bit}
 use Rattle.grib_bits.specs.Octets.{octets}
 use Rattle.grib_base.specs.declared.fault.Reason.TheVariants.{Harmonics, SecondOrder, ExtraFlags, BitWidth, DataTooShort}
-use Rattle.grib_base.specs.Rows.{Row, row}
+use Rattle.grib_base.specs.Rules.{Rule, rule}
 
 abbrev pub data_flags : List ℕ → ℕ
 data_flags s = octets s 4 4
@@ -14,14 +14,14 @@ data_flags s = octets s 4 4
 abbrev pub bit_width : List ℕ → ℕ
 bit_width s = octets s 11 11
 
--- rows B4.1 to B4.5, where `present` points are present
-abbrev pub data_rows : ℕ → List ℕ → List Row
-data_rows present s =
+-- rules B4.1 to B4.5, where `present` points are present
+abbrev pub data_rules : ℕ → List ℕ → List Rule
+data_rules present s =
     let l = length s in
     let flags = data_flags s in
-    row (bit 1 flags) 4 Harmonics flags  -- B4.1
-    ∷ row (bit 2 flags) 4 SecondOrder flags  -- B4.2
-    ∷ row (bit 4 flags) 4 ExtraFlags flags  -- B4.3
-    ∷ row (nat_lt 48 (bit_width s)) 11 BitWidth (bit_width s)  -- B4.4
-    ∷ row (nat_lt (8 * l) (present * bit_width s + 88)) 1 DataTooShort l  -- B4.5
+    rule (bit 1 flags) 4 Harmonics flags  -- B4.1
+    ∷ rule (bit 2 flags) 4 SecondOrder flags  -- B4.2
+    ∷ rule (bit 4 flags) 4 ExtraFlags flags  -- B4.3
+    ∷ rule (nat_lt 48 (bit_width s)) 11 BitWidth (bit_width s)  -- B4.4
+    ∷ rule (nat_lt (8 * l) (present * bit_width s + 88)) 1 DataTooShort l  -- B4.5
     ∷ []

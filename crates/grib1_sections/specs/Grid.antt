@@ -6,7 +6,7 @@ use Rattle.grib_bits.specs.Octets.{octets}
 use Rattle.grib_bits.specs.Listed.{numbers_at}
 use Rattle.grib_base.specs.declared.fault.Reason.TheVariants.{SectionLength, GridType, PointCount, ListShape}
 use Rattle.grib_base.specs.declared.limits.TheConstants.{MOST_POINTS}
-use Rattle.grib_base.specs.Rows.{Row, row}
+use Rattle.grib_base.specs.Rules.{Rule, rule}
 use Rattle.grib2_sections.specs.Template.{Template, template, is_template, least_length}
 
 -- the types of grid of the profile, each with its least length in octets
@@ -58,19 +58,19 @@ grid_points s = cond (lists_rows s) (sum (row_list s)) (ni s * nj s)
 abbrev pub is_regular : ℕ → Bool
 is_regular t = list_any (λ n. n == t) (1 ∷ 3 ∷ 5 ∷ [])
 
--- rows B2.1 to B2.7
-abbrev pub grid_rows : List ℕ → List Row
-grid_rows s =
+-- rules B2.1 to B2.7
+abbrev pub grid_rules : List ℕ → List Rule
+grid_rules s =
     let l = length s in
     let t = grid_type s in
     let least = least_length grid_types t in
     let place = list_place s in
     let points = grid_points s in
-    row (not (is_template grid_types t)) 6 GridType t  -- B2.1
-    ∷ row (nat_lt l least) 1 SectionLength l  -- B2.2
-    ∷ row (nj s == 65535) 9 ListShape 65535  -- B2.3
-    ∷ row (lists_rows s && is_regular t) 7 ListShape 65535  -- B2.4
-    ∷ row (lists_rows s && (place == 255)) 5 ListShape 255  -- B2.5
-    ∷ row (has_list s && (not (nat_lt least place) || nat_lt l (lists_end s))) 5 ListShape place  -- B2.6
-    ∷ row (points == 0 || nat_lt MOST_POINTS points) 7 PointCount points  -- B2.7
+    rule (not (is_template grid_types t)) 6 GridType t  -- B2.1
+    ∷ rule (nat_lt l least) 1 SectionLength l  -- B2.2
+    ∷ rule (nj s == 65535) 9 ListShape 65535  -- B2.3
+    ∷ rule (lists_rows s && is_regular t) 7 ListShape 65535  -- B2.4
+    ∷ rule (lists_rows s && (place == 255)) 5 ListShape 255  -- B2.5
+    ∷ rule (has_list s && (not (nat_lt least place) || nat_lt l (lists_end s))) 5 ListShape place  -- B2.6
+    ∷ rule (points == 0 || nat_lt MOST_POINTS points) 7 PointCount points  -- B2.7
     ∷ []

@@ -4,7 +4,7 @@ use Rattle.std.specs.Prelude.{ℕ, Bool, not, List, [], ◌∷◌}
 use Rattle.grib_bits.specs.Bits.{bit}
 use Rattle.grib_bits.specs.Octets.{octets}
 use Rattle.grib_base.specs.declared.fault.Reason.TheVariants.{NoGridSection}
-use Rattle.grib_base.specs.Rows.{Row, row}
+use Rattle.grib_base.specs.Rules.{Rule, rule}
 
 abbrev pub section_flags : List ℕ → ℕ
 section_flags s = octets s 8 8
@@ -15,8 +15,8 @@ flags_grid s = bit 1 (section_flags s)
 abbrev pub flags_bitmap : List ℕ → Bool
 flags_bitmap s = bit 2 (section_flags s)
 
--- row B1.1
-abbrev pub identification_rows : List ℕ → List Row
-identification_rows s =
-    row (not (flags_grid s)) 8 NoGridSection (section_flags s)  -- B1.1
+-- rule B1.1
+abbrev pub identification_rules : List ℕ → List Rule
+identification_rules s =
+    rule (not (flags_grid s)) 8 NoGridSection (section_flags s)  -- B1.1
     ∷ []

@@ -2,9 +2,9 @@
 use Rattle.std.specs.Prelude.{◌≡◌, ℕ, cond, Option, Some, List, length, take, ◌==◌}
 use Rattle.grib2_sections.specs.Verdict.{Accepted}
 use Rattle.grib2_sections.specs.Head.{indicator, edition}
-use Rattle.grib1_sections.specs.Identification.{identification_rows}
-use Rattle.grib1_sections.specs.Grid.{grid_rows}
-use Rattle.grib1_sections.specs.Data.{data_rows}
+use Rattle.grib1_sections.specs.Identification.{identification_rules}
+use Rattle.grib1_sections.specs.Grid.{grid_rules}
+use Rattle.grib1_sections.specs.Data.{data_rules}
 use Rattle.grib1_sections.specs.Grammar.{IsSection, IsBitmap}
 use Rattle.grib1_sections.specs.Acceptance.{verdict_1, identification, grid, bitmap, data_section, points_of, values_of}
 
@@ -21,9 +21,9 @@ section_of message number =
     (cond (number == 2) (Some (grid message))
     (cond (number == 3) (bitmap message) (Some (data_section message))))
 
--- no row refuses the sections of a message; each states its length and has the octets that its rows ask for
+-- no rule refuses the sections of a message; each states its length and has the octets that its rules ask for
 pub record SectionsPass (message : List ℕ) : Type 0 where
-  pub identification_stands : IsSection 28 identification_rows (identification message)
-  pub grid_stands : IsSection 6 grid_rows (grid message)
+  pub identification_stands : IsSection 28 identification_rules (identification message)
+  pub grid_stands : IsSection 6 grid_rules (grid message)
   pub bitmap_stands : IsBitmap (points_of message) (bitmap message)
-  pub data_stands : IsSection 11 (data_rows (values_of message)) (data_section message)
+  pub data_stands : IsSection 11 (data_rules (values_of message)) (data_section message)

@@ -1,15 +1,15 @@
-//! The rows of the profile that decide whether a section is accepted.
+//! The rules of the profile that decide whether a section is accepted.
 
 ghost use Rattle.std.specs.Prelude.{◌≡◌, ◌+◌, ◌-◌, ◌*◌, ◌≤◌, ◌<◌, ◌^◌, true, false, length, sum, take, drop, Some, None, MatchResult, MatchOption, OnOk};
 ghost use Rattle.grib_bits.specs.Listed.{numbers_at};
-ghost use Rattle.grib_base.specs.Rows.{first_fault, first_fault_at};
+ghost use Rattle.grib_base.specs.Rules.{first_fault, first_fault_at};
 ghost use Rattle.grib2_sections.specs.Template.{is_template, least_length as least_of};
 ghost use Rattle.grib_bitmap.specs.Mask.{present_count};
-ghost use Rattle.grib1_sections.specs.Identification.{identification_rows};
+ghost use Rattle.grib1_sections.specs.Identification.{identification_rules};
 ghost use Rattle.grib1_sections.specs.Grid as grid;
-ghost use Rattle.grib1_sections.specs.Grid.{grid_types, grid_rows, grid_points};
-ghost use Rattle.grib1_sections.specs.Bitmap.{bitmap_rows, mask_of};
-ghost use Rattle.grib1_sections.specs.Data.{data_rows};
+ghost use Rattle.grib1_sections.specs.Grid.{grid_types, grid_rules, grid_points};
+ghost use Rattle.grib1_sections.specs.Bitmap.{bitmap_rules, mask_of};
+ghost use Rattle.grib1_sections.specs.Data.{data_rules};
 ghost use Rattle.grib_base.specs.Faults.{IsReadFault};
 ghost use Rattle.grib1_sections.specs.Known.{HasRows};
 
@@ -19,13 +19,13 @@ use grib_bitmap::{Mask, ones};
 use grib_bits::{has_bit, u8_at, u16_at};
 use std::alloc::Global;
 
-/// Tries the row of Section 1.
+/// Tries the rule of Section 1.
 pub(crate) fn check_identification(section: &Placed<'_>) -> Result<(), Fault>
     requires start { section.now.start < 2 ^ 63 }
     requires long { 28 ≤ length section.now.octets.now }
     ensures { MatchResult result
-        (λ _. first_fault_at section.now.start (identification_rows section.now.octets.now) ≡ None)
-        (λ fault. first_fault_at section.now.start (identification_rows section.now.octets.now)
+        (λ _. first_fault_at section.now.start (identification_rules section.now.octets.now) ≡ None)
+        (λ fault. first_fault_at section.now.start (identification_rules section.now.octets.now)
         ≡ Some fault) }
 {
     let flags = u8_at(section.octets, 8);
@@ -49,14 +49,14 @@ fn least_length(grid_type: u8) -> Option<usize>
     }
 }
 
-/// Tries the rows of Section 2. The answer is its number of points.
+/// Tries the rules of Section 2. The answer is its number of points.
 pub(crate) fn check_grid(section: &Placed<'_>) -> Result<u32, Fault>
     requires start { section.now.start < 2 ^ 63 }
     requires long { 6 ≤ length section.now.octets.now }
     ensures { MatchResult result
-        (λ points. (first_fault_at section.now.start (grid_rows section.now.octets.now) ≡ None)
+        (λ points. (first_fault_at section.now.start (grid_rules section.now.octets.now) ≡ None)
         × (points ≡ grid_points section.now.octets.now))
-        (λ fault. first_fault_at section.now.start (grid_rows section.now.octets.now) ≡ Some fault) }
+        (λ fault. first_fault_at section.now.start (grid_rules section.now.octets.now) ≡ Some fault) }
 {
     let octets = section.octets;
     let grid_type = u8_at(octets, 6);
@@ -74,15 +74,15 @@ pub(crate) fn check_grid(section: &Placed<'_>) -> Result<u32, Fault>
     Ok(points as u32)
 }
 
-/// Tries the rows of Section 2 that speak of its lists, where its kind has this least length.
+/// Tries the rules of Section 2 that speak of its lists, where its kind has this least length.
 fn check_lists(section: &Placed<'_>, least: usize) -> Result<(), Fault>
     requires start { section.now.start < 2 ^ 63 }
     requires long { 32 ≤ length section.now.octets.now }
     requires least { least ≡ least_of grid_types (grid.grid_type section.now.octets.now) }
-    ensures rows { MatchResult result
-        (λ _. first_fault (take 4 (drop 2 (grid_rows section.now.octets.now))) ≡ None)
+    ensures rules { MatchResult result
+        (λ _. first_fault (take 4 (drop 2 (grid_rules section.now.octets.now))) ≡ None)
         (λ fault. first_fault_at section.now.start
-        (take 4 (drop 2 (grid_rows section.now.octets.now))) ≡ Some fault) }
+        (take 4 (drop 2 (grid_rules section.now.octets.now))) ≡ Some fault) }
     ensures list { OnOk result (HasRows section.now.octets.now) }
 {
     let octets = section.octets;
@@ -169,7 +169,7 @@ fn sum_rows(octets: &[u8], first: usize, count: u16) -> u64
     points
 }
 
-/// Tries the rows of Section 3, where the grid has `points` points. The answer is how many are present.
+/// Tries the rules of Section 3, where the grid has `points` points. The answer is how many are present.
 pub(crate) fn check_bitmap(
     alloc: Global,
     section: &Placed<'_>,
@@ -178,10 +178,10 @@ pub(crate) fn check_bitmap(
     requires start { section.now.start < 2 ^ 63 }
     requires long { 6 ≤ length section.now.octets.now }
     ensures { MatchResult result
-        (λ present. (first_fault_at section.now.start (bitmap_rows points section.now.octets.now)
+        (λ present. (first_fault_at section.now.start (bitmap_rules points section.now.octets.now)
         ≡ None) × (present ≡ present_count (mask_of (Some section.now.octets.now) points)))
         (IsReadFault (first_fault_at section.now.start
-        (bitmap_rows points section.now.octets.now))) }
+        (bitmap_rules points section.now.octets.now))) }
 {
     let octets = section.octets;
     let number = u16_at(octets, 5);
@@ -203,13 +203,13 @@ pub(crate) fn check_bitmap(
     Ok(ones(&mask))
 }
 
-/// Tries the rows of Section 4, where `present` points are present.
+/// Tries the rules of Section 4, where `present` points are present.
 pub(crate) fn check_data(section: &Placed<'_>, present: u32) -> Result<(), Fault>
     requires start { section.now.start < 2 ^ 63 }
     requires long { 11 ≤ length section.now.octets.now }
     ensures { MatchResult result
-        (λ _. first_fault_at section.now.start (data_rows present section.now.octets.now) ≡ None)
-        (λ fault. first_fault_at section.now.start (data_rows present section.now.octets.now)
+        (λ _. first_fault_at section.now.start (data_rules present section.now.octets.now) ≡ None)
+        (λ fault. first_fault_at section.now.start (data_rules present section.now.octets.now)
         ≡ Some fault) }
 {
     let octets = section.octets;

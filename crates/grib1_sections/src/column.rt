@@ -13,9 +13,9 @@ ghost use Rattle.grib1_sections.specs.Held.{HoldsBits};
 
 use grib_base::List;
 use grib_bitmap::Mask;
-use grib_bits::{u8_at, u16_at, u32_at};
+use grib_bits::{u16_at, u32_at, u8_at};
 use grib_packing::{Column, Point};
-use grib_simple::{masked_points, unpack_points};
+use grib_simple_reading::{masked_points, unpack_points};
 use std::alloc::{AllocError, Global};
 
 /// The column of a grid of `points` points, by Section 1, Section 3, where there is one, and Section 4.

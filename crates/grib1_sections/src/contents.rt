@@ -10,11 +10,12 @@ ghost use Rattle.grib1_sections.specs.Keys.{key1_of, number1_of};
 ghost use Rattle.grib1_sections.specs.Message.{SectionsPass, section_of};
 
 use crate::column::read_column;
-use crate::key::{Key1, number_of};
+use crate::key::number_of;
 use crate::lists::{read_coordinates, read_rows};
 use crate::message::Message1;
 use grib_base::MOST_POINTS;
 use grib_bits::{signed_of, u8_at};
+use grib_keys::Key1;
 use grib_packing::Column;
 use std::alloc::{AllocError, Global};
 

@@ -1,10 +1,10 @@
 //! Sections one after another, and the End Section.
 
 ghost use Rattle.std.specs.Prelude.{◌≡◌, ◌+◌, ◌-◌, ◌≤◌, ◌<◌, ◌^◌, length, Some, None, MatchResult};
-ghost use Rattle.grib_base.specs.Rows as rows;
-ghost use Rattle.grib_base.specs.Rows.{first_fault};
+ghost use Rattle.grib_base.specs.Rules as acceptance;
+ghost use Rattle.grib_base.specs.Rules.{first_fault};
 ghost use Rattle.grib2_sections.specs.Head.{total_length_1};
-ghost use Rattle.grib1_sections.specs.Frame.{frame_rows, end_rows};
+ghost use Rattle.grib1_sections.specs.Frame.{frame_rules, end_rules};
 ghost use Rattle.grib1_sections.specs.Known.{Stands};
 
 use grib_base::{Fault, Reason};
@@ -34,14 +34,14 @@ impl Placed<'_> {
         requires start { self.now.start < 2 ^ 63 }
         requires counted { 1 ≤ place }
         requires near { place < 256 }
-        ensures { result ≡ rows.fault_at self.now.start (rows.refusal place reason detail) }
+        ensures { result ≡ acceptance.fault_at self.now.start (acceptance.refusal place reason detail) }
     {
         Fault::at(self.start as u64 + (place - 1), reason, detail)
     }
 }
 
 /// The section that begins at octet `start` of a message of `total` octets and has at least `least`. A
-/// refusal is that of the first row that fails: the octets end too early, or the section is too short
+/// refusal is that of the first rule that fails: the octets end too early, or the section is too short
 /// or leaves no four octets after it.
 pub(crate) fn section_from<'a>(
     octets: &'a [u8],
@@ -53,9 +53,9 @@ pub(crate) fn section_from<'a>(
     requires within { start ≤ length octets.now + 1 }
     requires total { total ≡ total_length_1 octets.now }
     ensures { MatchResult result
-        (λ section. (first_fault (frame_rows octets.now start least) ≡ None)
+        (λ section. (first_fault (frame_rules octets.now start least) ≡ None)
         × (section.start ≡ start) × Stands octets.now start least section.octets.now)
-        (λ fault. first_fault (frame_rows octets.now start least) ≡ Some fault) }
+        (λ fault. first_fault (frame_rules octets.now start least) ≡ Some fault) }
 {
     let before = start - 1;
     if octets.len() < before + 3 {
@@ -74,15 +74,15 @@ pub(crate) fn section_from<'a>(
     })
 }
 
-/// Tries the rows of the End Section, which is to begin at octet `start` of a message of `total`
+/// Tries the rules of the End Section, which is to begin at octet `start` of a message of `total`
 /// octets.
 pub(crate) fn check_end(octets: &[u8], total: u64, start: usize) -> Result<(), Fault>
     requires counted { 1 ≤ start }
     requires within { start ≤ length octets.now + 1 }
     requires total { total ≡ total_length_1 octets.now }
     ensures { MatchResult result
-        (λ _. first_fault (end_rows octets.now start) ≡ None)
-        (λ fault. first_fault (end_rows octets.now start) ≡ Some fault) }
+        (λ _. first_fault (end_rules octets.now start) ≡ None)
+        (λ fault. first_fault (end_rules octets.now start) ≡ Some fault) }
 {
     if octets.len() < start + 3 {
         return Err(truncated(octets));
@@ -100,7 +100,7 @@ pub(crate) fn check_end(octets: &[u8], total: u64, start: usize) -> Result<(), F
 
 /// The refusal of a message of which only these octets are there.
 fn truncated(octets: &[u8]) -> Fault
-    ensures { result ≡ rows.refusal (length octets.now + 1) Reason.Truncated (length octets.now) }
+    ensures { result ≡ acceptance.refusal (length octets.now + 1) Reason.Truncated (length octets.now) }
 {
     let present = octets.len() as u64;
     Fault::at(present + 1, Reason::Truncated, present)

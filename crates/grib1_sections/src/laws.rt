@@ -1,13 +1,11 @@
 //! Laws over the definitions.
 
-ghost use Rattle.std.specs.Prelude.{◌≡◌, ◌≢◌, ℕ, ◌+◌, ◌<◌, ◌≤◌, List, ◌++◌, length, take, All, Some};
+ghost use Rattle.std.specs.Prelude.{◌≡◌, ◌≢◌, ℕ, ◌+◌, ◌<◌, ◌≤◌, List, ◌++◌, length, take, All};
 ghost use Rattle.grib_base.specs.declared.fault.Fault.{Fault};
 ghost use Rattle.grib_base.specs.declared.fault.Reason.TheVariants.{Truncated};
 ghost use Rattle.grib2_sections.specs.Head.{indicator, edition, total_length_1};
 ghost use Rattle.grib2_sections.specs.Verdict.{Accepted, Refused};
 ghost use Rattle.grib1_sections.specs.Acceptance.{verdict_1, identification, grid, bitmap, data_section};
-ghost use Rattle.grib1_sections.specs.declared.key.Key1.{Key1};
-ghost use Rattle.grib1_sections.specs.Keys.{name1_of, key1_named};
 ghost use Rattle.grib1_sections.specs.Grammar.{Sections, Grammar1};
 
 /// What is accepted is exactly what is in the grammar, with its total length, whatever comes after it.
@@ -44,9 +42,4 @@ pub fn accepted_length()
         → verdict_1 octets ≡ Accepted total → total ≤ length octets }
     ensures alone { (octets : List ℕ) (total : ℕ) → edition octets ≡ 1
         → verdict_1 octets ≡ Accepted total → verdict_1 (take total octets) ≡ Accepted total }
-{}
-
-/// Each key is the one of its name, so no two keys have the same name.
-pub fn names_tell_keys()
-    ensures { (key : Key1) → key1_named (name1_of key) ≡ Some key }
 {}

@@ -12,6 +12,6 @@ mod message;
 mod reading;
 
 pub use grib_base::ReadFault as ReadFault1;
-pub use key::{Key1, Place};
+pub use grib_keys::Key1;
 pub use message::Message1;
 pub use reading::read_message1;

@@ -94,8 +94,8 @@ impl<'a> Message1<'a> {
         self.values
     }
 
-    /// The section with this number, 1 to 4. Only Section 3 may be absent. No row of the profile refuses
-    /// the sections of a message, so each has the octets that these rows ask for.
+    /// The section with this number, 1 to 4. Only Section 3 may be absent. No rule of the profile refuses
+    /// the sections of a message, so each has the octets that these rules ask for.
     pub fn section(&self, number: u8) -> Option<&'a [u8]>
         requires low { 1 ≤ number }
         requires high { number ≤ 4 }

@@ -1,12 +1,12 @@
 //! Reading a message.
 
 ghost use Rattle.std.specs.Prelude.{◌≡◌, ◌+◌, ◌≤◌, true, length, take, Some, None, MatchResult, option_copied};
-ghost use Rattle.grib_base.specs.Rows.{first_fault};
+ghost use Rattle.grib_base.specs.Rules.{first_fault};
 ghost use Rattle.grib2_sections.specs.Head.{indicator, edition, total_length_1};
 ghost use Rattle.grib2_sections.specs.Verdict.{Accepted};
-ghost use Rattle.grib1_sections.specs.Identification.{identification_rows, flags_bitmap as is_flagged};
-ghost use Rattle.grib1_sections.specs.Grid.{grid_rows, grid_points};
-ghost use Rattle.grib1_sections.specs.Data.{data_rows};
+ghost use Rattle.grib1_sections.specs.Identification.{identification_rules, flags_bitmap as is_flagged};
+ghost use Rattle.grib1_sections.specs.Grid.{grid_rules, grid_points};
+ghost use Rattle.grib1_sections.specs.Data.{data_rules};
 ghost use Rattle.grib1_sections.specs.Acceptance.{verdict_1, has_bitmap, bitmap_fault, bitmap, bitmap_start, data_start, points_of, values_of, section_fault};
 ghost use Rattle.grib1_sections.specs.Message.{IsMessage1};
 ghost use Rattle.grib2_sections.specs.Refused.{IsVerdict};
@@ -26,7 +26,7 @@ use std::alloc::Global;
 ///
 /// # Errors
 ///
-/// The first row of the profile that fails, or there is no memory for the bits of Section 3.
+/// The first rule of the profile that fails, or there is no memory for the bits of Section 3.
 pub fn read_message1<'a>(alloc: Global, octets: &'a [u8]) -> Result<Message1<'a>, ReadFault>
     requires indicated { take 4 octets.now ≡ indicator }
     requires edition { edition octets.now ≡ 1 }
@@ -67,9 +67,9 @@ fn read_identification(octets: &[u8], total: u64) -> Result<Placed<'_>, Fault>
     requires begun { 8 ≤ length octets.now }
     requires total { total ≡ total_length_1 octets.now }
     ensures { MatchResult result
-        (λ section. (section_fault octets.now 9 28 identification_rows ≡ None)
+        (λ section. (section_fault octets.now 9 28 identification_rules ≡ None)
         × (section.start ≡ 9) × Stands octets.now 9 28 section.octets.now)
-        (λ fault. section_fault octets.now 9 28 identification_rows ≡ Some fault) }
+        (λ fault. section_fault octets.now 9 28 identification_rules ≡ Some fault) }
 {
     let section = section_from(octets, total, 9, 28)?;
     check_identification(&section)?;
@@ -83,10 +83,10 @@ fn read_grid(octets: &[u8], total: u64, start: usize) -> Result<(Placed<'_>, u32
     requires within { start ≤ length octets.now + 1 }
     requires total { total ≡ total_length_1 octets.now }
     ensures { MatchResult result
-        (λ found. (section_fault octets.now start 6 grid_rows ≡ None)
+        (λ found. (section_fault octets.now start 6 grid_rules ≡ None)
         × (found.0.start ≡ start) × Stands octets.now start 6 found.0.octets.now
         × (found.1 ≡ grid_points found.0.octets.now))
-        (λ fault. section_fault octets.now start 6 grid_rows ≡ Some fault) }
+        (λ fault. section_fault octets.now start 6 grid_rules ≡ Some fault) }
 {
     let section = section_from(octets, total, start, 6)?;
     let points = check_grid(&section)?;
@@ -146,9 +146,9 @@ fn read_data(octets: &[u8], total: u64, start: usize, present: u32) -> Result<Pl
     requires within { start ≤ length octets.now + 1 }
     requires total { total ≡ total_length_1 octets.now }
     ensures { MatchResult result
-        (λ section. (section_fault octets.now start 11 (data_rows present) ≡ None)
+        (λ section. (section_fault octets.now start 11 (data_rules present) ≡ None)
         × (section.start ≡ start) × Stands octets.now start 11 section.octets.now)
-        (λ fault. section_fault octets.now start 11 (data_rows present) ≡ Some fault) }
+        (λ fault. section_fault octets.now start 11 (data_rules present) ≡ Some fault) }
 {
     let section = section_from(octets, total, start, 11)?;
     check_data(&section, present)?;

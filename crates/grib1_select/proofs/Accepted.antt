@@ -4,15 +4,15 @@ use Rattle.std.specs.Prelude.{All, unwrap_or}
 use Rattle.grib_bits.specs.Bits.{bit}
 use Rattle.grib_bits.specs.Octets.{num_on, octets}
 use Rattle.grib_base.specs.declared.fault.Reason.TheVariants.{NoGridSection}
-use Rattle.grib_base.specs.Rows.{Row, row, first_fault}
+use Rattle.grib_base.specs.Rules.{Rule, rule, first_fault}
 use Rattle.grib2_sections.specs.Head.{end_mark}
 use Rattle.grib_packing.specs.declared.column.Column.{Column}
 use Rattle.grib1_sections.specs.Acceptance.{identification, grid, bitmap, data_section, verdict_1}
-use Rattle.grib1_sections.specs.Identification.{identification_rows, flags_bitmap}
+use Rattle.grib1_sections.specs.Identification.{identification_rules, flags_bitmap}
 use Rattle.grib1_sections.specs.Grid.{grid_points}
 use Rattle.grib1_sections.specs.Bitmap.{mask_of}
 use Rattle.grib1_sections.specs.Grammar.{Sections, IsSection, Grammar1}
-use Rattle.grib1_sections.specs.Keys.{can_set1}
+use Rattle.grib_keys.specs.Keys1.{can_set1}
 use Rattle.grib1_sections.specs.Column.{column_from, column1_of}
 use Rattle.grib1_sections.specs.Message.{IsMessage1}
 use Rattle.grib1_sections.proofs.Joined.{accepted_in_grammar, grammar_accepted, rejoined}
@@ -22,9 +22,9 @@ use Rattle.grib1_select.proofs.Places.{set_apart, set_before}
 use Rattle.grib1_select.proofs.Changes.{stays}
 use Rattle.grib1_select.proofs.Set.{opens, new_long, length-with_keys1, front_stays, states_same, new_identification}
 
--- the rows of a Section 1 with these flags
-abbrev rows_of : ℕ → List Row
-rows_of flags = row (not (bit 1 flags)) 8 NoGridSection flags ∷ []
+-- the rules of a Section 1 with these flags
+abbrev rules_of : ℕ → List Rule
+rules_of flags = rule (not (bit 1 flags)) 8 NoGridSection flags ∷ []
 
 joined_again : (f t b c d e : List ℕ) → f ++ (t ++ ((b ++ (c ++ d)) ++ e)) ≡ (f ++ (t ++ (b ++ (c ++ d)))) ++ e
 joined_again f t b c d e = simp append_assoc
@@ -80,7 +80,7 @@ module _ (m : List ℕ) (changes : List Change1) (small : All (λ octet. octet <
       let rest : drop (8 + length (identification m)) m ≡ (b ++ (c ++ d)) ++ end_mark =
       ap (λ (xs : List ℕ). drop (8 + length xs) m) first ∙ behind_first m (take 8 m) a (b ++ (c ++ d)) end_mark g.joined eight in
       let head : take 8 (with_keys1 m changes) ≡ take 8 m = front_stays m changes o 1 8 (omega arith) (omega arith) (omega arith) in
-      let was : IsSection 28 identification_rows (identification m) = subst (IsSection 28 identification_rows) (sym first) g.identification_stands in
+      let was : IsSection 28 identification_rules (identification m) = subst (IsSection 28 identification_rules) (sym first) g.identification_stands in
       record {
         joined =
             ap (λ (xs : List ℕ). take 8 m ++ (t ++ xs)) rest ∙ joined_again (take 8 m) t b c d end_mark
@@ -92,7 +92,7 @@ module _ (m : List ℕ) (changes : List Change1) (small : All (λ octet. octet <
         identification_stands = record {
           length_stands = ap (num_on 0) (states_same m changes o) ∙ o.states ∙ sym (new_long m changes o);
           long = omega (arith, new_long m changes o, o.long);
-          rows_hold = ap (λ (n : ℕ). first_fault (rows_of n)) flags_same ∙ was.rows_hold;
+          rules_hold = ap (λ (n : ℕ). first_fault (rules_of n)) flags_same ∙ was.rules_hold;
         };
         grid_stands = g.grid_stands;
         flagged = g.flagged ∙ ap flags_bitmap (sym first) ∙ ap (bit 2) (sym flags_same);

@@ -6,7 +6,7 @@ use Rattle.std.proofs.lemmas.List.Elements.{All-head, All-tail}
 use Rattle.grib_bits.specs.Octets.{octet_list}
 use Rattle.grib_bits.specs.Encoding.{octets_of}
 use Rattle.grib_bits.proofs.Encoding.{length-octets_of}
-use Rattle.grib1_sections.specs.Keys.{place_of}
+use Rattle.grib_keys.specs.Keys1.{place_of}
 use Rattle.grib1_select.specs.declared.condition.Change1.{Change1}
 use Rattle.grib1_select.specs.Changed.{octet_count, new_number1, with_key1, with_changes1}
 use Rattle.grib1_select.proofs.Puts.{length-put, put-before, put-behind, put-here}

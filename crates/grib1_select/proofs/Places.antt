@@ -3,9 +3,9 @@ use Rattle.std.proofs.Common.{◌≡◌, ◌≢◌, ◌⊎◌, inl, inr, ℕ, �
 use Rattle.std.specs.declared.option.Option.{Option}
 use Rattle.std.specs.Prelude.{find}
 use Rattle.std.proofs.lemmas.Bool.{cases_lt}
-use Rattle.grib1_sections.specs.declared.key.Key1.{Key1}
-use Rattle.grib1_sections.specs.declared.key.Key1.TheVariants.{Version, Centre, Process, GridNumber, Flags, Level, AverageCount, DecimalScale}
-use Rattle.grib1_sections.specs.Keys.{place_of, keys1, can_set1}
+use Rattle.grib_keys.specs.declared.key1.Key1.{Key1}
+use Rattle.grib_keys.specs.declared.key1.Key1.TheVariants.{Version, Centre, Process, GridNumber, Flags, Level, AverageCount, DecimalScale}
+use Rattle.grib_keys.specs.Keys1.{place_of, keys1, can_set1}
 
 pub record IsPlace (first last : ℕ) : Type 0 where
   pub low : 4 ≤ first

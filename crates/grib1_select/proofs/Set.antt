@@ -6,9 +6,10 @@ use Rattle.std.proofs.lemmas.List.Elements.{All-head, All-tail}
 use Rattle.grib_bits.specs.Octets.{num_on, octets, octet_list}
 use Rattle.grib_bits.proofs.Encoding.{num_on-octets_of}
 use Rattle.grib1_sections.specs.Acceptance.{identification}
-use Rattle.grib1_sections.specs.declared.key.Key1.{Key1}
-use Rattle.grib1_sections.specs.declared.key.Key1.TheVariants.{Version, DecimalScale}
-use Rattle.grib1_sections.specs.Keys.{place_of, key1_of, number1_of, can_set1}
+use Rattle.grib_keys.specs.declared.key1.Key1.{Key1}
+use Rattle.grib_keys.specs.declared.key1.Key1.TheVariants.{Version, DecimalScale}
+use Rattle.grib1_sections.specs.Keys.{key1_of, number1_of}
+use Rattle.grib_keys.specs.Keys1.{place_of, can_set1}
 use Rattle.grib1_sections.specs.Message.{IsMessage1}
 use Rattle.grib1_sections.proofs.Fronts.{accepted_parts}
 use Rattle.grib1_sections.proofs.Joined.{message_sections_pass}

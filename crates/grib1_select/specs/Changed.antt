@@ -3,8 +3,8 @@ use Rattle.std.specs.Prelude.{◌≡◌, ℕ, ◌+◌, ◌-◌, ◌^◌, cond, n
 use Rattle.std.specs.List.{find}
 use Rattle.grib_bits.specs.Encoding.{octets_of}
 use Rattle.grib1_sections.specs.Acceptance.{identification}
-use Rattle.grib1_sections.specs.Keys.{place_of}
-use Rattle.grib1_sections.specs.declared.key.Key1.{Key1}
+use Rattle.grib_keys.specs.Keys1.{place_of}
+use Rattle.grib_keys.specs.declared.key1.Key1.{Key1}
 use Rattle.grib1_select.specs.declared.condition.Change1.{Change1}
 use Rattle.grib1_select.specs.declared.changing.SetFault1.{SetFault1}
 use Rattle.grib1_select.specs.declared.changing.SetFault1.TheVariants.{KeyRange, Memory}

@@ -1,7 +1,7 @@
 //! Messages with other values of some numbers of Section 1.
 
 ghost use Rattle.std.specs.Prelude.{◌≡◌, ◌+◌, ◌++◌, ◌≤◌, ◌<◌, ◌^◌, length, None, Some, All, IsTrue, IfOk, OnOk, IfSome, MatchResult};
-ghost use Rattle.grib1_sections.specs.Keys.{can_set1};
+ghost use Rattle.grib_keys.specs.Keys1.{can_set1};
 ghost use Rattle.grib1_sections.specs.Acceptance.{identification};
 ghost use Rattle.grib1_select.specs.declared.changing.SetFault1.TheVariants.{Memory};
 ghost use Rattle.grib1_select.specs.Changed as definitions;

@@ -2,11 +2,12 @@
 
 ghost use Rattle.std.specs.Prelude.{◌≡◌, ◌≢◌, ◌⊎◌, ℕ, ℤ, ◌+◌, ◌<◌, ◌≤◌, List, ◌++◌, ◌∷◌, length, None, All, IsTrue};
 ghost use Rattle.grib_bits.specs.Octets.{octets};
-ghost use Rattle.grib1_sections.specs.declared.key.Key1.{Key1};
+ghost use Rattle.grib_keys.specs.declared.key1.Key1.{Key1};
 ghost use Rattle.grib1_sections.specs.Message.{IsMessage1};
 ghost use Rattle.grib1_sections.specs.Acceptance.{points_of, mask};
 ghost use Rattle.grib1_sections.specs.Column.{column1_of};
-ghost use Rattle.grib1_sections.specs.Keys.{place_of, key1_of, number1_of, can_set1};
+ghost use Rattle.grib1_sections.specs.Keys.{key1_of, number1_of};
+ghost use Rattle.grib_keys.specs.Keys1.{place_of, can_set1};
 ghost use Rattle.grib1_select.specs.declared.condition.Change1.{Change1};
 ghost use Rattle.grib1_select.specs.Changed.{with_keys1, set_fault1};
 

@@ -6,9 +6,9 @@ use Rattle.std.proofs.lemmas.Option.{slice_get_within}
 use Rattle.grib_base.specs.declared.profile.Profile.{Profile}
 use Rattle.grib_base.specs.declared.fault.Fault.{Fault}
 use Rattle.grib_base.specs.declared.fault.Reason.TheVariants.{Truncated, Edition, TotalLength}
-use Rattle.grib_base.specs.Rows.{first_fault, refusal}
+use Rattle.grib_base.specs.Rules.{first_fault, refusal}
 use Rattle.grib2_sections.specs.Verdict.{Refused}
-use Rattle.grib2_sections.specs.Head.{indicator, edition, discipline, head_rows, head_of, total_length, total_length_1}
+use Rattle.grib2_sections.specs.Head.{indicator, edition, discipline, head_rules, head_of, total_length, total_length_1}
 use Rattle.grib2_sections.specs.declared.indicator.Head.{Head}
 use Rattle.grib2_sections.specs.Frame.{Position}
 use Rattle.grib2_message.specs.Summary.{summary_in_force}
@@ -25,32 +25,32 @@ use Rattle.grib2_arrival.proofs.Onward.{from_way}
 use Rattle.grib2_arrival.specs.declared.head.Beginning.{Beginning}
 use Rattle.grib2_arrival.specs.Heard.{cut_off, BeginsLikeTwo, BeginsHeard}
 
--- the refusal by the rows of Section 0, by their tests
+-- the refusal by the rules of Section 0, by their tests
 abbrev by_head : Fault → Fault → Fault → Fault → Fault → Bool → Bool → Bool → Bool → Bool → Option Fault
 by_head a b c d e f1 f2 f3 f4 f5 = cond f1 (Some a) (cond f2 (Some b) (cond f3 (Some c) (cond f4 (Some d) (cond f5 (Some e) None))))
 
 module _ (profile : Profile) (m : List ℕ) where
-  abbrev rows : Bool → Bool → Bool → Option Fault
-  rows f1 f2 f3 =
+  abbrev rules : Bool → Bool → Bool → Option Fault
+  rules f1 f2 f3 =
       by_head (cut_off m) (refusal 8 Edition (edition m)) (cut_off m) (refusal 9 TotalLength (total_length m)) (refusal 5 TotalLength (total_length_1 m))
       f1 f2 f3 (edition m == 2 && (nat_lt (total_length m) 20 || nat_lt 268435456 (total_length m))) (edition m == 1 && nat_lt (total_length_1 m) 12)
 
-  head_is : first_fault (head_rows m)
-      ≡ rows (nat_lt (length m) 8) (not (edition m == 1) && not (edition m == 2)) (edition m == 2 && nat_lt (length m) 16)
+  head_is : first_fault (head_rules m)
+      ≡ rules (nat_lt (length m) 8) (not (edition m == 1) && not (edition m == 2)) (edition m == 2 && nat_lt (length m) 16)
   head_is = refl
 
   -- they are cut off
-  head_cut : length m ≤ 15 → (8 ≤ length m → edition m ≡ 2) → first_fault (head_rows m) ≡ Some (cut_off m)
+  head_cut : length m ≤ 15 → (8 ≤ length m → edition m ≡ 2) → first_fault (head_rules m) ≡ Some (cut_off m)
   head_cut few second = elim (cases_lt (length m) 8) [
     | inl short ↦
-        ap (λ (f : Bool). rows f (not (edition m == 1) && not (edition m == 2)) (edition m == 2 && nat_lt (length m) 16)) (lt-ltb (length m) 8 short)
+        ap (λ (f : Bool). rules f (not (edition m == 1) && not (edition m == 2)) (edition m == 2 && nat_lt (length m) 16)) (lt-ltb (length m) 8 short)
     | inr long ↦
         let two = second long in
         let f1 : nat_lt (length m) 8 ≡ false = le-ltb (length m) 8 long in
         let f2 : (not (edition m == 1) && not (edition m == 2)) ≡ false =
         ap₂ (λ (a b : Bool). not a && not b) (ne_eqb (edition m) 1 (λ one. absurd (omega arith))) (eq-eqb (edition m) 2 two) in
         let f3 : (edition m == 2 && nat_lt (length m) 16) ≡ true = ap₂ (λ (a b : Bool). a && b) (eq-eqb (edition m) 2 two) (lt-ltb (length m) 16 (omega arith)) in
-        λ i. rows (f1 i) (f2 i) (f3 i)
+        λ i. rules (f1 i) (f2 i) (f3 i)
   ]
 
   pub begins_cut : length m ≤ 15 → BeginsLikeTwo m → verdict_under profile m ≡ Refused (cut_off m)
@@ -63,14 +63,14 @@ module _ (profile : Profile) (m : List ℕ) where
   head_reason false true d e fault is_d is_e h = λ t. (let same : e ≡ fault = cc in let bad : TotalLength ≡ Truncated = sym is_e ∙ ap (λ f. f.reason) same ∙ t in cc)
   head_reason false false d e fault is_d is_e h = cc
 
-  pub head_refused : 16 ≤ length m → edition m ≡ 2 → (fault : Fault) → first_fault (head_rows m) ≡ Some fault
+  pub head_refused : 16 ≤ length m → edition m ≡ 2 → (fault : Fault) → first_fault (head_rules m) ≡ Some fault
       → (verdict_under profile m ≡ Refused fault) × (fault.reason ≢ Truncated)
   head_refused long two fault e =
       let f1 : nat_lt (length m) 8 ≡ false = le-ltb (length m) 8 (omega arith) in
       let f2 : (not (edition m == 1) && not (edition m == 2)) ≡ false =
       ap₂ (λ (a b : Bool). not a && not b) (ne_eqb (edition m) 1 (λ one. absurd (omega arith))) (eq-eqb (edition m) 2 two) in
       let f3 : (edition m == 2 && nat_lt (length m) 16) ≡ false = ap₂ (λ (a b : Bool). a && b) (eq-eqb (edition m) 2 two) (le-ltb (length m) 16 long) in
-      let by : first_fault (head_rows m) ≡ rows false false false = λ i. rows (f1 i) (f2 i) (f3 i) in (
+      let by : first_fault (head_rules m) ≡ rules false false false = λ i. rules (f1 i) (f2 i) (f3 i) in (
         ap (λ (o : Option Fault). unless_refused o (λ _. verdict_from profile (length m + 1) m [] 17)) e,
         head_reason (edition m == 2 && (nat_lt (total_length m) 20 || nat_lt 268435456 (total_length m))) (edition m == 1 && nat_lt (total_length_1 m) 12)
             (refusal 9 TotalLength (total_length m)) (refusal 5 TotalLength (total_length_1 m)) fault refl refl (sym by ∙ e),
@@ -113,14 +113,14 @@ front_begins u more b = record {
 
 -- ---- Section 0 is whole
 
-pub head_stays : (u more : List ℕ) → edition u ≡ 2 → first_fault (head_rows u) ≡ None → first_fault (head_rows (u ++ more)) ≡ None
-head_stays u more two none = go (first_fault (head_rows u)) none (head_kept u (u ++ more) (front_of_more u more) (λ one. absurd (omega arith))) where
-  go : (o : Option Fault) → o ≡ None → HeadKept o (first_fault (head_rows (u ++ more))) → first_fault (head_rows (u ++ more)) ≡ None
+pub head_stays : (u more : List ℕ) → edition u ≡ 2 → first_fault (head_rules u) ≡ None → first_fault (head_rules (u ++ more)) ≡ None
+head_stays u more two none = go (first_fault (head_rules u)) none (head_kept u (u ++ more) (front_of_more u more) (λ one. absurd (omega arith))) where
+  go : (o : Option Fault) → o ≡ None → HeadKept o (first_fault (head_rules (u ++ more))) → first_fault (head_rules (u ++ more)) ≡ None
   go None e (inl cut) = absurd cut
   go None e (inr same) = same
   go (Some fault) e h = cc
 
-pub walked_head : (profile : Profile) (u : List ℕ) → length u ≡ 16 → edition u ≡ 2 → first_fault (head_rows u) ≡ None → Walked profile u [] 17
+pub walked_head : (profile : Profile) (u : List ℕ) → length u ≡ 16 → edition u ≡ 2 → first_fault (head_rules u) ≡ None → Walked profile u [] 17
 walked_head profile u long two none = record {
   low = omega arith;
   within = omega arith;
@@ -131,10 +131,10 @@ walked_head profile u long two none = record {
 }
 
 -- what is kept then
-pub stands_first : (profile : Profile) (u : List ℕ) (kept : Kept) → length u ≡ 16 → edition u ≡ 2 → first_fault (head_rows u) ≡ None → kept.frame ≡ record { total = total_length u; place = 17; last = 0 }
+pub stands_first : (profile : Profile) (u : List ℕ) (kept : Kept) → length u ≡ 16 → edition u ≡ 2 → first_fault (head_rules u) ≡ None → kept.frame ≡ record { total = total_length u; place = 17; last = 0 }
     → HasInForce [] kept.force → kept.force.profile ≡ profile → kept.line ≡ summary_in_force (discipline u) [] → kept.summaries.items ≡ [] → Stands profile u [] kept
 stands_first profile u kept long two none frame force under line summaries =
-    let p = head_passes u (λ one. absurd (omega arith)) (passes_from_none (head_rows u) none) in
+    let p = head_passes u (λ one. absurd (omega arith)) (passes_from_none (head_rules u) none) in
     let total = ap (λ (at : Position). at.total) frame in
     let place = ap (λ (at : Position). at.place) frame in
     let last = ap (λ (at : Position). at.last) frame in

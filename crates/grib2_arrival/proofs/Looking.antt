@@ -5,7 +5,7 @@ use Rattle.grib_bits.specs.Octets.{octets as number_at}
 use Rattle.grib_base.specs.declared.profile.Profile.{Profile}
 use Rattle.grib_base.specs.declared.fault.Fault.{Fault}
 use Rattle.grib_base.specs.declared.fault.Reason.TheVariants.{Truncated}
-use Rattle.grib2_sections.specs.Frame.{Placed, Fails, Next, end_rows, end_fault, opening_fault, mark_fault, ends_at, may_follow}
+use Rattle.grib2_sections.specs.Frame.{Placed, Fails, Next, end_rules, end_fault, opening_fault, mark_fault, ends_at, may_follow}
 use Rattle.grib2_sections.proofs.Frames.{mark_cut, mark_there, frame_cut, frame_refused, frame_short, frame_passes, step_refused, step_ends, step_frame, step_next}
 use Rattle.grib2_message.proofs.Passed.{passes_from_none}
 use Rattle.grib2_message.proofs.Walk.{second_fails}
@@ -51,8 +51,8 @@ module _ (profile : Profile) (u : List ℕ) (before : List Placed) (kept : Kept)
       pub looks_ended : (number_at gathered 1 4 == mark) ≡ true → Looks u kept gathered Ends
       looks_ended on =
           let no_five : 5 ≤ length gathered → ⊥ = λ five. one.goes five (eqb-true (number_at gathered 1 4) mark on) in
-          let rows = passes_from_none (end_rows kept.frame.total kept.frame.last kept.frame.place (number_at gathered 1 4)) passes in
-          let late = ltb-false (kept.frame.place + 3) kept.frame.total (second_fails (number_at gathered 1 4 == mark) (nat_lt (kept.frame.place + 3) kept.frame.total) rows.1.0 on) in (
+          let rules = passes_from_none (end_rules kept.frame.total kept.frame.last kept.frame.place (number_at gathered 1 4)) passes in
+          let late = ltb-false (kept.frame.place + 3) kept.frame.total (second_fails (number_at gathered 1 4 == mark) (nat_lt (kept.frame.place + 3) kept.frame.total) rules.1.0 on) in (
             step_ends u kept.frame (marked None passes) (ap (λ (n : ℕ). n == mark) stated ∙ on),
             omega (arith, long, late, h.room, no_five),
           )

@@ -10,7 +10,7 @@ use Rattle.grib2_sections.specs.Head.{discipline}
 use Rattle.grib2_sections.specs.Frame.{Placed, placed_at, position_after, Next}
 use Rattle.grib2_sections.proofs.Frames.{mark_cut, step_refused}
 use Rattle.grib_packing.specs.Entries.{data_fault}
-use Rattle.grib_base.specs.Rows.{located}
+use Rattle.grib_base.specs.Rules.{located}
 use Rattle.grib2_message.specs.View.{last_number, octets_in_force}
 use Rattle.grib2_message.specs.Acceptance.{section_fault_under}
 use Rattle.grib2_message.specs.Kept.{HasInForce}
@@ -134,7 +134,7 @@ values_follow profile u before kept l h v =
 pub values_begun : (s : List ℕ) → length s ≡ 5 → drop 5 s ≡ []
 values_begun s five = none_left (drop 5 s) (omega (arith, length-drop 5 s))
 
--- and it is refused or not by its rows
+-- and it is refused or not by its rules
 pub values_fault : (profile : Profile) (before : List Placed) (start : ℕ) (s7 : List ℕ) → StatesItself 7 s7
     → section_fault_under profile before (placed_at start s7) ≡ located start (data_fault (octets_in_force 5 before) s7)
 values_fault profile before start s7 itself = fault_by_number before (placed_at start s7) 7 itself.number_stands profile 7 refl

@@ -17,7 +17,7 @@ pub record GoesOnFrom (profile : Profile) (message : List ℕ) (before : List Pl
   pub fields : (i : ℕ) → field_sections message (section_count 7 before + suc i) ≡ sections_up_to_field (suc i) before (sections_from (turns_left message before) message q)
   pub count : field_count message ≡ section_count 7 before + count_by (is_numbered 7) (sections_from (turns_left message before) message q)
 
--- Section 0 and these sections, the newest first, stand whole in the octets before octet q, no row refuses them, and
+-- Section 0 and these sections, the newest first, stand whole in the octets before octet q, no rule refuses them, and
 -- whatever follows the octets is judged from octet q on.
 pub record Walked (profile : Profile) (octets : List ℕ) (before : List Placed) (q : ℕ) : Type 0 where
   pub low : 17 + 5 * length before ≤ q

@@ -1,7 +1,7 @@
-//! A Section 7 of which the rows are tried as its octets come.
+//! A Section 7 of which the rules are tried as its octets come.
 
 ghost use Rattle.std.specs.Prelude.{◌≡◌, ℕ, ◌+◌, ◌≤◌, None, Some, List, [], ◌++◌, length as length_of, drop, IfOk, MatchResult};
-ghost use Rattle.grib_base.specs.Rows.{located};
+ghost use Rattle.grib_base.specs.Rules.{located};
 ghost use Rattle.grib_packing.specs.Entries.{data_fault};
 ghost use Rattle.grib_packings.specs.Field.{IsDataOf};
 ghost use Rattle.grib2_arrival.specs.Fed.{DataAgrees, HasAll, MayBeFed};
@@ -11,12 +11,12 @@ use grib_packing::Nothing;
 use grib_packings::{DataRepresentation, Feeding};
 use std::alloc::{AllocError, Global};
 
-/// Tries the rows of a Section 7 as its octets come, and keeps none of its values.
+/// Tries the rules of a Section 7 as its octets come, and keeps none of its values.
 #[derive(Debug, Drop)]
 pub(crate) enum Data {
     /// Its values are read.
     Reads(Feeding<Nothing>),
-    /// Its packing is opaque, and no row asks for its octets: this many are still to come.
+    /// Its packing is opaque, and no rule asks for its octets: this many are still to come.
     Passes(u32),
 }
 

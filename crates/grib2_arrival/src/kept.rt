@@ -52,7 +52,7 @@ impl Kept {
 ///
 /// # Errors
 ///
-/// The first row of its contents that fails, or there is no memory.
+/// The first rule of its contents that fails, or there is no memory.
 pub(crate) fn after_section(
     alloc: Global,
     kept: Kept,
@@ -75,7 +75,7 @@ pub(crate) fn after_section(
     Ok(kept)
 }
 
-/// What is kept after a Section 7 of this length, which no row refused: its field ends.
+/// What is kept after a Section 7 of this length, which no rule refused: its field ends.
 pub(crate) fn after_values(kept: Kept, length: u32) -> Result<Kept, ReadFault>
     requires stands { (profile : Profile) × (octets : List ℕ) × (before : List Placed) × Stands profile octets before kept
         × (kept.frame.place + length + 3 ≤ kept.frame.total) }

@@ -29,7 +29,7 @@ impl Kept {
     ///
     /// # Errors
     ///
-    /// The first row of the profile that fails: a section may not stand there, or a length disagrees with the total.
+    /// The first rule of the profile that fails: a section may not stand there, or a length disagrees with the total.
     pub fn look(&self, gathered: &[u8]) -> Result<Look, Fault>
         ensures { (profile : Profile) (octets : List ℕ) (before : List Placed) → Stands profile octets before self.now
             → gathered.now ≡ pending octets self.now → IsOne gathered.now

@@ -28,7 +28,7 @@ pub(crate) enum State {
     Begins(Beginning),
     /// What came of the next section or of the End Section, which is not whole, is gathered.
     Gathers(Kept, Vec<u8>),
-    /// The rows of a Section 7 of this many octets are tried as they come; nothing is gathered.
+    /// The rules of a Section 7 of this many octets are tried as they come; nothing is gathered.
     Feeds(Kept, Vec<u8>, u32, Data),
     /// The End Section came.
     Ended(Kept),

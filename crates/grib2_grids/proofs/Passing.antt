@@ -1,10 +1,10 @@
--- What the tests of the rows say of the numbers.
-use Rattle.std.proofs.Common.{◌≡◌, ℕ, ◌<◌, ◌≤◌, Bool, true, false, not, ◌&&◌, ◌||◌, ◌⊎◌, eqb, nat_lt, refl, arith, inl, inr}
+-- What the tests of the rules say of the numbers.
+use Rattle.std.proofs.Common.{◌≡◌, ℕ, ◌<◌, ◌≤◌, Bool, true, false, not, ◌&&◌, ◌||◌, ◌⊎◌, eqb, nat_lt, arith, inl, inr}
 use Rattle.std.proofs.lemmas.Bool.{cases_lt}
 use Rattle.std.proofs.lemmas.Bool.Decides.{nat_tests}
 use Rattle.grib_base.specs.declared.limits.TheConstants.{MOST_POINTS}
 
--- ---- a row on sections with a list alone
+-- ---- a rule on sections with a list alone
 
 pub listed_test : (size : ℕ) (b : Bool) → (not (eqb size 0) && b) ≡ false → 0 < size → b ≡ false
 listed_test size b h some = grind (arith, nat_tests)
@@ -19,11 +19,7 @@ plain_test size b h none = grind (arith, nat_tests)
 pub test_plain : (size : ℕ) (b : Bool) → (size ≡ 0 → b ≡ false) → (not (not (eqb size 0)) && b) ≡ false
 test_plain size b h = grind (arith, nat_tests)
 
-pub not_false : (b : Bool) → not b ≡ false → b ≡ true
-not_false true h = refl
-not_false false h = cc
-
--- ---- the tests of each row, and back
+-- ---- the tests of each rule, and back
 
 pub points_test : (n : ℕ) → (eqb n 0 || nat_lt MOST_POINTS n) ≡ false → (1 ≤ n) × (n ≤ MOST_POINTS)
 points_test n h = (grind (arith, nat_tests), grind (arith, nat_tests))

@@ -1,4 +1,4 @@
--- What is known of a value that a section has which passes the rows.
+-- What is known of a value that a section has which passes the rules.
 use Rattle.std.proofs.Common.{◌≡◌, ℕ, ◌*◌, ◌^◌, ◌<◌, ◌≤◌, List, [], length, sum, All, sym, ap, ap₂, ◌∙◌, arith, subst, inl, inr, refl}
 use Rattle.std.proofs.lemmas.Bool.{cases_lt}
 use Rattle.std.proofs.lemmas.List.Elements.{All-from_get_or}
@@ -8,10 +8,10 @@ use Rattle.grib_bits.specs.Listed.{numbers_at}
 use Rattle.grib_bits.proofs.OctetBits.{AreOctets}
 use Rattle.grib_bits.proofs.OctetNumbers.{octets-lt}
 use Rattle.grib_bits.proofs.Listed.{AreOctets-from_All, All-from_AreOctets, length-numbers_at, numbers_at-lt}
-use Rattle.grib_base.specs.Rows.{first_fault, first_fault_at}
+use Rattle.grib_base.specs.Rules.{first_fault, first_fault_at}
 use Rattle.grib_base.proofs.Passing.{passes_from_none, none-located}
 use Rattle.grib2_sections.specs.Template.{least_length}
-use Rattle.grib2_grids.specs.Grid.{grid_rows, grid_templates, grid_template, grid_points, list_octets, list_meaning, list_start, ni, nj, row_list, may_have_list}
+use Rattle.grib2_grids.specs.Grid.{grid_rules, grid_templates, grid_template, grid_points, list_octets, list_meaning, list_start, ni, nj, row_list, may_have_list}
 use Rattle.grib2_grids.specs.Whole.{HasNumbers}
 use Rattle.grib2_grids.specs.Spelled.{IsSectionOf, Spelled, common_of, written_length}
 use Rattle.grib2_grids.specs.Writable.{ListsRows, ListsNone, IsWritable}
@@ -69,14 +69,14 @@ module _ (value : GridSection) (s : List ℕ) (is : IsSectionOf value s) where
 
   nj-lt : 0 < list_octets s → (1 ≤ nj s) × (nj s < 4294967295)
   nj-lt some =
-      let rows = passes_from_none (grid_rows s) is.rows in
-      let test = listed_test (list_octets s) _ rows.1.1.1.1.1.1.1.0 some in
+      let rules = passes_from_none (grid_rules s) is.rows in
+      let test = listed_test (list_octets s) _ rules.1.1.1.1.1.1.1.0 some in
       let start = list_start-least (grid_template s) ((has value s is).may_list some) in
       let far = list_start-some s in
       let fits = octets-lt s 35 38 4 (known value s is) (omega arith) (omega arith) (omega (arith, (has value s is).template.long)) in
       count_test (nj s) test (omega arith)
 
-  -- each row fits its octets
+  -- each rule fits its octets
   rows_fit : 0 < list_octets s → All (λ (row : ℕ). row < 256 ^ value.list_octets) value.rows
   rows_fit some =
       let f = list_start s in
@@ -93,8 +93,8 @@ module _ (value : GridSection) (s : List ℕ) (is : IsSectionOf value s) where
 module _ (value : GridSection) (s : List ℕ) (is : IsSectionOf value s) where
   lists_rows : 0 < list_octets s → ListsRows value
   lists_rows some =
-      let rows = passes_from_none (grid_rows s) is.rows in
-      let meaning = meaning_test (list_octets s) (list_meaning s) rows.1.1.1.1.1.0 some in
+      let rules = passes_from_none (grid_rules s) is.rows in
+      let meaning = meaning_test (list_octets s) (list_meaning s) rules.1.1.1.1.1.0 some in
       let count = row_count value s is some in
       let bounds = nj-lt value s is some in
       record {
@@ -105,22 +105,22 @@ module _ (value : GridSection) (s : List ℕ) (is : IsSectionOf value s) where
         some = omega (arith, count, bounds.0);
         known = omega (arith, count, bounds.1);
         fit = rows_fit value s is some;
-        points = ap sum is.spelled.rows ∙ same_test (sum (row_list s)) (grid_points s) (listed_test (list_octets s) _ rows.1.1.1.1.1.1.1.1.1.0 some) ∙ sym is.spelled.points;
+        points = ap sum is.spelled.rows ∙ same_test (sum (row_list s)) (grid_points s) (listed_test (list_octets s) _ rules.1.1.1.1.1.1.1.1.1.0 some) ∙ sym is.spelled.points;
       }
 
   lists_none : list_octets s ≡ 0 → ListsNone value
   lists_none none =
-      let rows = passes_from_none (grid_rows s) is.rows in
+      let rules = passes_from_none (grid_rules s) is.rows in
       record {
         rows = no_rows value s is none;
         points = ap₂ ◌*◌ (ni_is value s is) (nj_is value s is)
-            ∙ same_test (ni s * nj s) (grid_points s) (plain_test (list_octets s) _ rows.1.1.1.1.1.1.1.1.1.1.0 none) ∙ sym is.spelled.points;
+            ∙ same_test (ni s * nj s) (grid_points s) (plain_test (list_octets s) _ rules.1.1.1.1.1.1.1.1.1.1.0 none) ∙ sym is.spelled.points;
       }
 
   pub writable : IsWritable value
   writable =
-      let rows = passes_from_none (grid_rows s) is.rows in
-      let points = points_test (grid_points s) rows.1.1.1.1.0 in
+      let rules = passes_from_none (grid_rules s) is.rows in
+      let points = points_test (grid_points s) rules.1.1.1.1.0 in
       record {
         some = omega (arith, points.0, is.spelled.points);
         few = omega (arith, points.1, is.spelled.points);
@@ -130,10 +130,10 @@ module _ (value : GridSection) (s : List ℕ) (is : IsSectionOf value s) where
       }
 
 -- what `read_grid` answers for octets is what they are a section of
-pub IsSectionOf-read : (start : ℕ) (value : GridSection) (s : List ℕ) → AreOctets s → StatesItself 3 s → first_fault_at start (grid_rows s) ≡ None → Spelled value s → IsSectionOf value s
+pub IsSectionOf-read : (start : ℕ) (value : GridSection) (s : List ℕ) → AreOctets s → StatesItself 3 s → first_fault_at start (grid_rules s) ≡ None → Spelled value s → IsSectionOf value s
 IsSectionOf-read start value s octets itself rows spelled = record {
   small = All-from_AreOctets s octets;
   itself = itself;
-  rows = none-located start (first_fault (grid_rows s)) rows;
+  rows = none-located start (first_fault (grid_rules s)) rows;
   spelled = spelled;
 }

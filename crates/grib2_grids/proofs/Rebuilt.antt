@@ -6,10 +6,10 @@ use Rattle.std.proofs.lemmas.List.Elements.{All-get_or}
 use Rattle.std.specs.Prelude.{None}
 use Rattle.grib_bits.specs.Listed.{numbers_octets}
 use Rattle.grib_bits.proofs.Listed.{length-numbers_octets, numbers_at-behind}
-use Rattle.grib_base.specs.Rows.{first_fault}
+use Rattle.grib_base.specs.Rules.{first_fault}
 use Rattle.grib_base.proofs.Passing.{none_from_passes}
 use Rattle.grib2_sections.specs.Template.{least_length, is_template}
-use Rattle.grib2_grids.specs.Grid.{grid_rows, grid_templates, grid_template, grid_points, list_octets, list_meaning, list_start, ni, nj, row_list, may_have_list}
+use Rattle.grib2_grids.specs.Grid.{grid_rules, grid_templates, grid_template, grid_points, list_octets, list_meaning, list_start, ni, nj, row_list, may_have_list}
 use Rattle.grib2_grids.specs.Whole.{HasList}
 use Rattle.grib2_grids.specs.Spelled.{IsSectionOf, Spelled, SpelledTemplate, template_of, common_of, written_length}
 use Rattle.grib2_grids.specs.Writable.{IsWritable}
@@ -100,7 +100,7 @@ module _ (value : GridSection) (w : IsWritable value)
     rows = list_new;
   }
 
-  -- no row of the profile refuses it
+  -- no rule of the profile refuses it
   least_new : least_length grid_templates (grid_template (section_of_grid value)) ≤ length (section_of_grid value)
   least_new =
       let template = ap (least_length grid_templates) h.template_number in
@@ -127,12 +127,12 @@ module _ (value : GridSection) (w : IsWritable value)
   meaning_new : 0 < list_octets (section_of_grid value) → (list_meaning (section_of_grid value) ≡ 1) ⊎ (list_meaning (section_of_grid value) ≡ 2)
   meaning_new some = elim (w.listed (omega (arith, some, size_new))).meaning [ inl e ↦ inl (sym h.list_meaning_octets ∙ e) | inr e ↦ inr (sym h.list_meaning_octets ∙ e) ]
 
-  passes_new : first_fault (grid_rows (section_of_grid value)) ≡ None
+  passes_new : first_fault (grid_rules (section_of_grid value)) ≡ None
   passes_new =
       let s = section_of_grid value in
       let long = length-section_of_grid value in
       let template = length-template_octets value.grid in
-      none_from_passes (grid_rows s) (
+      none_from_passes (grid_rules s) (
         le-ltb (length s) 14 (omega arith),
         (
           ap (λ (n : ℕ). not (eqb n 0)) (sym h.source_octets),

@@ -6,7 +6,7 @@ use Rattle.grib_bits.specs.Octets.{octets}
 use Rattle.grib_bits.specs.Listed.{numbers_at}
 use Rattle.grib_base.specs.declared.fault.Reason.TheVariants.{SectionLength, GridSource, GridTemplate, PointCount, ListShape}
 use Rattle.grib_base.specs.declared.limits.TheConstants.{MOST_POINTS}
-use Rattle.grib_base.specs.Rows.{Row, row}
+use Rattle.grib_base.specs.Rules.{Rule, rule}
 use Rattle.grib2_sections.specs.Template.{Template, template, is_template, least_length}
 
 -- the grid templates of the profile, each with its least length in octets
@@ -51,9 +51,9 @@ row_list s =
 abbrev pub may_have_list : ℕ → Bool
 may_have_list t = list_any (λ n. n == t) (0 ∷ 1 ∷ 40 ∷ [])
 
--- rows S3.1 to S3.11
-abbrev pub grid_rows : List ℕ → List Row
-grid_rows s =
+-- rules S3.1 to S3.11
+abbrev pub grid_rules : List ℕ → List Rule
+grid_rules s =
     let l = length s in
     let t = grid_template s in
     let points = grid_points s in
@@ -61,15 +61,15 @@ grid_rows s =
     let meaning = list_meaning s in
     let listed = not (size == 0) in
     let f = list_start s in
-    row (nat_lt l 14) 1 SectionLength l  -- S3.1
-    ∷ row (not (grid_source s == 0)) 6 GridSource (grid_source s)  -- S3.2
-    ∷ row (not (is_template grid_templates t)) 13 GridTemplate t  -- S3.3
-    ∷ row (nat_lt l (least_length grid_templates t)) 1 SectionLength l  -- S3.4
-    ∷ row (points == 0 || nat_lt MOST_POINTS points) 7 PointCount points  -- S3.5
-    ∷ row (listed && not (meaning == 1) && not (meaning == 2)) 12 ListShape meaning  -- S3.6
-    ∷ row (nat_lt 4 size || (listed && not (may_have_list t))) 11 ListShape size  -- S3.7
-    ∷ row (listed && (nj s == 0 || nj s == 4294967295)) 35 ListShape (nj s)  -- S3.8
-    ∷ row (listed && nat_lt l (f - 1 + size * nj s)) f ListShape (nj s)  -- S3.9
-    ∷ row (listed && not (sum (row_list s) == points)) 7 PointCount (sum (row_list s))  -- S3.10
-    ∷ row (not listed && not (ni s * nj s == points)) 7 PointCount (ni s * nj s)  -- S3.11
+    rule (nat_lt l 14) 1 SectionLength l  -- S3.1
+    ∷ rule (not (grid_source s == 0)) 6 GridSource (grid_source s)  -- S3.2
+    ∷ rule (not (is_template grid_templates t)) 13 GridTemplate t  -- S3.3
+    ∷ rule (nat_lt l (least_length grid_templates t)) 1 SectionLength l  -- S3.4
+    ∷ rule (points == 0 || nat_lt MOST_POINTS points) 7 PointCount points  -- S3.5
+    ∷ rule (listed && not (meaning == 1) && not (meaning == 2)) 12 ListShape meaning  -- S3.6
+    ∷ rule (nat_lt 4 size || (listed && not (may_have_list t))) 11 ListShape size  -- S3.7
+    ∷ rule (listed && (nj s == 0 || nj s == 4294967295)) 35 ListShape (nj s)  -- S3.8
+    ∷ rule (listed && nat_lt l (f - 1 + size * nj s)) f ListShape (nj s)  -- S3.9
+    ∷ rule (listed && not (sum (row_list s) == points)) 7 PointCount (sum (row_list s))  -- S3.10
+    ∷ rule (not listed && not (ni s * nj s == points)) 7 PointCount (ni s * nj s)  -- S3.11
     ∷ []

@@ -2,9 +2,9 @@
 -- grid definition templates 3.0, 3.1, 3.10, 3.20, 3.30 and 3.40).
 use Rattle.std.specs.Prelude.{◌≡◌, ℕ, ◌+◌, ◌*◌, ◌<◌, List, All, length, None}
 use Rattle.grib_bits.specs.Octets.{octets, StatesItself}
-use Rattle.grib_base.specs.Rows.{first_fault}
+use Rattle.grib_base.specs.Rules.{first_fault}
 use Rattle.grib2_sections.specs.Template.{least_length}
-use Rattle.grib2_grids.specs.Grid.{grid_templates, grid_rows, row_list}
+use Rattle.grib2_grids.specs.Grid.{grid_templates, grid_rules, row_list}
 use Rattle.grib2_grids.specs.declared.templates.Common.{Common}
 use Rattle.grib2_grids.specs.declared.templates.LatLon.{LatLon}
 use Rattle.grib2_grids.specs.declared.templates.Rotation.{Rotation}
@@ -206,11 +206,11 @@ pub record Spelled (value : GridSection) (s : List ℕ) : Type 0 where
   pub grid : SpelledTemplate value.grid s
   pub rows : value.rows ≡ row_list s
 
--- Octets that are a Section 3 which no row of the profile refuses, and of which the value has the numbers.
+-- Octets that are a Section 3 which no rule of the profile refuses, and of which the value has the numbers.
 pub record IsSectionOf (value : GridSection) (s : List ℕ) : Type 0 where
   pub small : All (λ octet. octet < 256) s
   pub itself : StatesItself 3 s
-  pub rows : first_fault (grid_rows s) ≡ None
+  pub rows : first_fault (grid_rules s) ≡ None
   pub spelled : Spelled value s
 
 -- the length of a section that has its template and its list, and no more

@@ -1,4 +1,4 @@
--- What the rows of Section 3 tell of a section's length.
+-- What the rules of Section 3 tell of a section's length.
 use Rattle.std.specs.Prelude.{◌≡◌, ℕ, ◌+◌, ◌-◌, ◌*◌, ◌<◌, ◌≤◌, true, List, length}
 use Rattle.grib2_sections.specs.Template.{is_template, least_length}
 use Rattle.grib2_grids.specs.Grid.{grid_templates, grid_source, grid_template, list_octets, list_start, may_have_list, nj}

@@ -1,4 +1,4 @@
--- Which values of Section 3 can be written: those that a section has which no row of the profile refuses.
+-- Which values of Section 3 can be written: those that a section has which no rule of the profile refuses.
 use Rattle.std.specs.Prelude.{◌≡◌, ◌*◌, ◌^◌, ◌<◌, ◌≤◌, ◌⊎◌, true, [], All, length, sum}
 use Rattle.grib_base.specs.declared.limits.TheConstants.{MOST_POINTS}
 use Rattle.grib2_grids.specs.Grid.{may_have_list}

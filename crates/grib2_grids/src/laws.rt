@@ -2,8 +2,8 @@
 
 ghost use Rattle.std.specs.Prelude.{◌≡◌, ℕ, List, false, None};
 ghost use Rattle.grib_base.specs.declared.profile.Profile.TheVariants.{Stated, Open};
-ghost use Rattle.grib_base.specs.Rows.{first_fault};
-ghost use Rattle.grib2_grids.specs.Opaque.{is_opaque_grid, grid_rows_under};
+ghost use Rattle.grib_base.specs.Rules.{first_fault};
+ghost use Rattle.grib2_grids.specs.Opaque.{is_opaque_grid, grid_rules_under};
 ghost use Rattle.grib2_grids.specs.Spelled.{Spelled, IsSectionOf};
 ghost use Rattle.grib2_grids.specs.Writable.{IsWritable};
 ghost use Rattle.grib2_grids.specs.declared.grid.GridSection.{GridSection};
@@ -21,12 +21,12 @@ pub fn what_is_read_can_be_written()
 
 /// What the stated profile accepts, the open one accepts.
 pub fn the_open_profile_accepts_what_is_stated()
-    ensures { (s : List ℕ) → first_fault (grid_rows_under Stated s) ≡ None
-        → first_fault (grid_rows_under Open s) ≡ None }
+    ensures { (s : List ℕ) → first_fault (grid_rules_under Stated s) ≡ None
+        → first_fault (grid_rules_under Open s) ≡ None }
 {}
 
-/// Where the grid is not opaque, both profiles have the same rows.
+/// Where the grid is not opaque, both profiles have the same rules.
 pub fn profiles_differ_in_opaque_grids_alone()
     ensures { (s : List ℕ) → is_opaque_grid s ≡ false
-        → grid_rows_under Open s ≡ grid_rows_under Stated s }
+        → grid_rules_under Open s ≡ grid_rules_under Stated s }
 {}

@@ -5,7 +5,7 @@ mod grid;
 pub mod laws;
 mod opaque;
 mod reading;
-mod rows;
+mod rules;
 mod templates;
 mod writing;
 
@@ -13,6 +13,6 @@ pub use grib_base::ReadFault as GridFault;
 pub use grid::{Grid, GridSection};
 pub use opaque::{check_grid_under, is_opaque_grid};
 pub use reading::{grid_of, read_grid};
-pub use rows::check_grid;
+pub use rules::check_grid;
 pub use templates::{Gaussian, Lambert, LatLon, Mercator, Polar, Rotation};
 pub use writing::write_grid;

@@ -2,11 +2,11 @@
 
 ghost use Rattle.std.specs.Prelude.{◌≡◌, ◌≤◌, length, Some, None, MatchResult};
 ghost use Rattle.grib_base.specs.declared.profile.Profile.TheVariants.{Open};
-ghost use Rattle.grib_base.specs.Rows.{first_fault_at};
+ghost use Rattle.grib_base.specs.Rules.{first_fault_at};
 ghost use Rattle.grib2_grids.specs.Opaque as opaque;
-ghost use Rattle.grib2_grids.specs.Opaque.{grid_rows_under};
+ghost use Rattle.grib2_grids.specs.Opaque.{grid_rules_under};
 
-use crate::rows::{check_grid, check_point_count, least_length};
+use crate::rules::{check_grid, check_point_count, least_length};
 use grib_base::{Fault, Profile, Reason, Section};
 use grib_bits::{u8_at, u16_at};
 
@@ -19,17 +19,17 @@ pub fn is_opaque_grid(octets: &[u8]) -> bool
     u8_at(octets, 6) != 0 || least_length(u16_at(octets, 13)).is_none()
 }
 
-/// Tries the rows of Section 3 under a profile. No memory is taken.
+/// Tries the rules of Section 3 under a profile. No memory is taken.
 ///
 /// # Errors
 ///
-/// The first row of the profile that fails, as `check_grid` tells it. Where any grid is accepted and this one
+/// The first rule of the profile that fails, as `check_grid` tells it. Where any grid is accepted and this one
 /// is opaque, the section is shorter than 14 octets, or states no points or too many.
 pub fn check_grid_under(profile: Profile, section: &Section<'_>) -> Result<(), Fault>
     ensures { MatchResult result
-        (λ _. first_fault_at section.now.start (grid_rows_under profile section.now.octets.now)
+        (λ _. first_fault_at section.now.start (grid_rules_under profile section.now.octets.now)
         ≡ None)
-        (λ fault. first_fault_at section.now.start (grid_rows_under profile section.now.octets.now)
+        (λ fault. first_fault_at section.now.start (grid_rules_under profile section.now.octets.now)
         ≡ Some fault) }
 {
     match profile {
@@ -38,11 +38,11 @@ pub fn check_grid_under(profile: Profile, section: &Section<'_>) -> Result<(), F
     }
 }
 
-/// Tries the rows of Section 3 where any grid is accepted.
+/// Tries the rules of Section 3 where any grid is accepted.
 fn check_any_grid(section: &Section<'_>) -> Result<(), Fault>
     ensures { MatchResult result
-        (λ _. first_fault_at section.now.start (grid_rows_under Open section.now.octets.now) ≡ None)
-        (λ fault. first_fault_at section.now.start (grid_rows_under Open section.now.octets.now)
+        (λ _. first_fault_at section.now.start (grid_rules_under Open section.now.octets.now) ≡ None)
+        (λ fault. first_fault_at section.now.start (grid_rules_under Open section.now.octets.now)
         ≡ Some fault) }
 {
     let octets = section.octets;

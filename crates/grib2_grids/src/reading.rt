@@ -2,13 +2,13 @@
 
 ghost use Rattle.std.specs.Prelude.{◌≡◌, ◌≢◌, ◌≤◌, length, None, Err, MatchResult, IfOk, IsOk};
 ghost use Rattle.grib_bits.specs.Octets.{octets as octets_of};
-ghost use Rattle.grib_base.specs.Rows.{first_fault_at};
-ghost use Rattle.grib2_grids.specs.Grid.{grid_rows, list_octets, row_list};
+ghost use Rattle.grib_base.specs.Rules.{first_fault_at};
+ghost use Rattle.grib2_grids.specs.Grid.{grid_rules, list_octets, row_list};
 ghost use Rattle.grib2_grids.specs.Whole.{IsWhole, HasNumbers};
 ghost use Rattle.grib_base.specs.Faults.{IsReadFault};
 ghost use Rattle.grib2_grids.specs.Spelled.{Spelled, SpelledTemplate, template_of, SpelledCommon, SpelledLatLon, SpelledRotation, SpelledMercator, SpelledPolar, SpelledLambert, gaussian_lat_lon};
 
-use crate::rows::{check_grid, list_start};
+use crate::rules::{check_grid, list_start};
 use crate::templates::{Common, template};
 use crate::{Gaussian, Grid, GridSection, Lambert, LatLon, Mercator, Polar, Rotation};
 use grib_base::{List, ReadFault, Section};
@@ -19,20 +19,20 @@ use std::alloc::{AllocError, Global};
 ///
 /// # Errors
 ///
-/// The first row of the profile that fails, as `check_grid` tells it. Or there is no memory for the list
+/// The first rule of the profile that fails, as `check_grid` tells it. Or there is no memory for the list
 /// of rows, where there is one.
 pub fn read_grid(alloc: Global, section: &Section<'_>) -> Result<GridSection, ReadFault>
-    ensures rows { MatchResult result
-        (λ value. (first_fault_at section.now.start (grid_rows section.now.octets.now) ≡ None)
+    ensures rules { MatchResult result
+        (λ value. (first_fault_at section.now.start (grid_rules section.now.octets.now) ≡ None)
         × Spelled value section.now.octets.now)
-        (IsReadFault (first_fault_at section.now.start (grid_rows section.now.octets.now))) }
+        (IsReadFault (first_fault_at section.now.start (grid_rules section.now.octets.now))) }
     ensures memory { list_octets section.now.octets.now ≡ 0 → result ≢ Err ReadFault.Memory }
 {
     check_grid(section)?;
     Ok(grid_of(alloc, section.octets)?)
 }
 
-/// What a Section 3 says that no row of the profile refuses.
+/// What a Section 3 says that no rule of the profile refuses.
 ///
 /// # Errors
 ///

@@ -4,15 +4,15 @@ use Rattle.std.specs.Option.{option_map_or}
 use Rattle.std.proofs.lemmas.Bool.{cases_eq}
 use Rattle.std.proofs.lemmas.List.{length-set, get_or-set_same, get_or-set_other}
 use Rattle.grib_base.specs.declared.profile.Profile.{Profile}
-use Rattle.grib_base.specs.Rows.{first_fault}
+use Rattle.grib_base.specs.Rules.{first_fault}
 use Rattle.grib2_sections.specs.Frame.{Placed, placed_at, section_number, may_follow}
 use Rattle.grib2_grids.specs.Grid.{grid_points}
-use Rattle.grib_bitmap.specs.Mask.{bitmap_indicator, bitmap_rows}
+use Rattle.grib_bitmap.specs.Mask.{bitmap_indicator, bitmap_rules}
 use Rattle.grib_packing.specs.Packing.{value_count}
 use Rattle.grib_packings.specs.Field.{IsDataOf}
 use Rattle.grib_packings.specs.declared.data_representation.DataRepresentation.{DataRepresentation}
 use Rattle.grib2_message.specs.View.{last_number, section_in_force, octets_in_force, points_in_force, earlier_bitmap, earlier_mask, section_count}
-use Rattle.grib2_message.specs.Acceptance.{section_fault_under, contents_faults, no_rows}
+use Rattle.grib2_message.specs.Acceptance.{section_fault_under, contents_faults, no_rules}
 use Rattle.grib2_message.specs.Kept.{AreSound, StandsAt, start_in_force, KeepsRepresentation, KeepsBitmap, HasInForce, HasPlaces, Comes}
 use Rattle.grib2_message.specs.declared.in_force.Bitmap.{Bitmap}
 use Rattle.grib2_message.specs.declared.in_force.InForce.{InForce}
@@ -20,14 +20,14 @@ use Rattle.grib2_message.specs.declared.places.Places.{Places}
 use Rattle.grib2_message.proofs.Latest.{in_force_same, in_force_other, octets_same}
 use Rattle.grib2_message.proofs.Order.{Follows, follows_tells, in_range, one_below}
 use Rattle.grib2_message.proofs.Sound.{none_located, fault_of, points_kept as same_points, bitmap_own as own_list, bitmap_kept as kept_list, bitmap_not_own as not_own_list, count_same, count_other, sound_after}
-use Rattle.grib2_message.proofs.Bitmaps.{rows_alone}
+use Rattle.grib2_message.proofs.Bitmaps.{rules_alone}
 
 module _ (before : List Placed) (s : Placed) (number : ℕ) (numbered : section_number s.octets ≡ number) where
   not_here : (n : ℕ) → number ≢ n → section_number s.octets ≢ n
   not_here n other e = other (sym numbered ∙ e)
 
   -- its refusal
-  pub fault_by_number : (profile : Profile) (n : ℕ) → number ≡ n → section_fault_under profile before s ≡ get_or (contents_faults profile) n no_rows before s
+  pub fault_by_number : (profile : Profile) (n : ℕ) → number ≡ n → section_fault_under profile before s ≡ get_or (contents_faults profile) n no_rules before s
   fault_by_number profile n e = fault_of profile before s n (numbered ∙ e)
 
   -- ---- the last Section 6 with bits of its own
@@ -44,7 +44,7 @@ module _ (before : List Placed) (s : Placed) (number : ℕ) (numbered : section_
     bitmap_new six own accepted bitmap is_start is_points is_present =
         let points = is_points ∙ h.points in
         let values = value_count (octets_in_force 5 before) in
-        let none = none_located s.start (first_fault (bitmap_rows s.octets (points_in_force before) values (earlier_mask before))) (sym (fault_by_number force.profile 6 six) ∙ accepted) in
+        let none = none_located s.start (first_fault (bitmap_rules s.octets (points_in_force before) values (earlier_mask before))) (sym (fault_by_number force.profile 6 six) ∙ accepted) in
         let not_254 : bitmap_indicator s.octets ≢ 254 = λ e. absurd (omega arith) in
         subst (λ (xs : List Placed). KeepsBitmap (Some bitmap) xs) (sym (own_list s before (numbered ∙ six) own))
         (record {
@@ -52,8 +52,8 @@ module _ (before : List Placed) (s : Placed) (number : ℕ) (numbered : section_
           points = points;
           numbered = numbered ∙ six;
           own = own;
-          rows = (λ i. first_fault (bitmap_rows s.octets (points i) (is_present i) None))
-              ∙ rows_alone s.octets (points_in_force before) values not_254 None (earlier_mask before) ∙ none;
+          rules = (λ i. first_fault (bitmap_rules s.octets (points i) (is_present i) None))
+              ∙ rules_alone s.octets (points_in_force before) values not_254 None (earlier_mask before) ∙ none;
         })
 
   -- ---- the order

@@ -5,9 +5,9 @@ use Rattle.std.proofs.lemmas.List.Elements.{All-drop}
 use Rattle.grib_bits.specs.Octets.{StatesItself}
 use Rattle.grib_base.specs.declared.profile.Profile.{Profile}
 use Rattle.grib_base.specs.declared.fault.Fault.{Fault}
-use Rattle.grib_base.specs.Rows.{first_fault}
-use Rattle.grib2_sections.specs.Head.{head_rows}
-use Rattle.grib2_sections.specs.Frame.{Placed, placed_at, Position, position_after, section_at, section_number, ends_at, mark_rows, frame_rows, End, Fails, Next, step_from}
+use Rattle.grib_base.specs.Rules.{first_fault}
+use Rattle.grib2_sections.specs.Head.{head_rules}
+use Rattle.grib2_sections.specs.Frame.{Placed, placed_at, Position, position_after, section_at, section_number, ends_at, mark_rules, frame_rules, End, Fails, Next, step_from}
 use Rattle.grib_packing.specs.declared.written.Packed.{Packed}
 use Rattle.grib2_message.specs.Acceptance.{section_fault_under, verdict_from}
 use Rattle.grib2_message.specs.Fields.{sections_from, sections_of, field_count, part_octets}
@@ -31,7 +31,7 @@ pub record Ahead (profile : Profile) (m : List ℕ) (at : Position) (left : List
 -- all of them at first
 pub ahead_start : (profile : Profile) (m : List ℕ) (at : Position) → IsMessageUnder profile m → at ≡ record { total = length m; place = 17; last = 0 } → Ahead profile m at (sections_of m)
 ahead_start profile m at h is =
-    let told = unless_tells (first_fault (head_rows m)) (λ _. verdict_from profile (length m + 1) m [] 17) (length m) h.accepted in
+    let told = unless_tells (first_fault (head_rules m)) (λ _. verdict_from profile (length m + 1) m [] 17) (length m) h.accepted in
     subst (λ (x : Position). Ahead profile m x (sections_of m)) (sym is)
     (record {
       turns = length m;
@@ -48,7 +48,7 @@ pub record First (profile : Profile) (m : List ℕ) (next_at : Position) (start 
   pub ahead : Ahead profile m next_at rest
   pub shorter : length s ≤ 268435456
 
--- no row refuses what comes
+-- no rule refuses what comes
 pub contents_pass : (profile : Profile) (m : List ℕ) (at : Position) (left : List Placed) (s : List ℕ) (h : Ahead profile m at left) → step_from m at ≡ Next s
     → section_fault_under profile h.before (placed_at at.place s) ≡ None
 contents_pass profile m at left s h e =
@@ -75,7 +75,7 @@ ahead_next profile m at next_at start s left h e is next_is =
 -- none at the End Section
 pub ahead_end : (profile : Profile) (m : List ℕ) (at : Position) (left : List Placed) → Ahead profile m at left → step_from m at ≡ End → left ≡ []
 ahead_end profile m at left h e =
-    let told = tells_end (first_fault (mark_rows m at.total at.last at.place)) (ends_at m at.place) (first_fault (frame_rows m at.total at.last at.place)) (section_at m at.place) e in
+    let told = tells_end (first_fault (mark_rules m at.total at.last at.place)) (ends_at m at.place) (first_fault (frame_rules m at.total at.last at.place)) (section_at m at.place) e in
     h.are ∙ no_sections h.turns m at.place told.1
 
 -- and nothing is refused

@@ -85,7 +85,7 @@ pub record MayReplace (profile : Profile) (others : List Placed) (start : ℕ) (
   pub length_stands : section_length t ≡ length t
   pub least : 5 ≤ length t
   pub numbered : section_number t ≡ section_number s
-  pub rows_hold : section_fault_under profile others (placed_at start t) ≡ None
+  pub rules_hold : section_fault_under profile others (placed_at start t) ≡ None
 
 -- so it may follow there where s may
 pub replaces : (profile : Profile) (before others : List Placed) (q p : ℕ) (s t : List ℕ) → last_number others ≡ last_number before → IsSection profile before q s
@@ -94,5 +94,5 @@ replaces profile before others q p s t last is h = record {
   length_stands = h.length_stands;
   least = h.least;
   follows = ap₂ may_follow last h.numbered ∙ is.follows;
-  rows_hold = h.rows_hold;
+  rules_hold = h.rules_hold;
 }

@@ -20,13 +20,13 @@ pub stands_below : (m : List ℕ) (before : List Placed) (places : Places) (k : 
 stands_below m before places k h low high within =
     in_force_stands m before places k h (omega arith) (h.force.sound.present k (omega arith) within (λ e. absurd (omega arith)))
 
--- what is kept of the earlier bitmap tells what its row asks
+-- what is kept of the earlier bitmap tells what its rule asks
 pub keeps_tells : (bitmap : Option Bitmap) (earlier : List Placed) → KeepsBitmap bitmap earlier → TellsBitmap bitmap (bitmap_mask earlier)
 keeps_tells None [] h = tt
 keeps_tells None (s ∷ before) h = absurd h
 keeps_tells (Some bitmap) [] h = absurd h
 keeps_tells (Some bitmap) (s ∷ before) h =
-    let told = own_tells s.octets bitmap.points bitmap.present h.own h.rows in
+    let told = own_tells s.octets bitmap.points bitmap.present h.own h.rules in
     let bits : own_mask s.octets (points_in_force before) ≡ own_mask s.octets bitmap.points = ap (own_mask s.octets) (sym h.points) in
     (ap length bits ∙ told.0, ap present_count bits ∙ told.1)
 
@@ -42,7 +42,7 @@ products_are_fields profile before h f =
     let counted : section_count 4 before ≡ section_count 7 before + begun last = h.counted in
     omega arith
 
--- rows that were tried are those of the section, and where none fails, this is known
+-- rules that were tried are those of the section, and where none fails, this is known
 pub tried_as : {A : Type 0} (real expected : Option Fault) (result : Result A ReadFault) (Known : Type 0) → real ≡ expected → AreTried expected result → (real ≡ None → Known)
     → MatchResult result (λ _. (real ≡ None) × Known) (IsReadFault real)
 tried_as real expected (Ok x) Known e h then = (let none : real ≡ None = e ∙ h in (none, then none))

@@ -2,9 +2,9 @@
 use Rattle.std.proofs.Common.{◌≡◌, ◌≢◌, ℕ, zero, suc, ◌+◌, ◌-◌, ◌≤◌, true, false, None, List, [], ◌∷◌, length, take, ◌==◌, inl, inr, sym, ap, ◌∙◌, arith, length-take-le}
 use Rattle.grib_bits.specs.Octets.{octets}
 use Rattle.grib_base.specs.declared.profile.Profile.{Profile}
-use Rattle.grib_base.specs.Rows.{first_fault}
+use Rattle.grib_base.specs.Rules.{first_fault}
 use Rattle.grib2_sections.specs.Verdict.{Accepted}
-use Rattle.grib2_sections.specs.Head.{edition, total_length, head_rows}
+use Rattle.grib2_sections.specs.Head.{edition, total_length, head_rules}
 use Rattle.grib2_sections.specs.Frame.{Placed, placed_at, section_at, ends_at}
 use Rattle.grib2_message.specs.View.{last_number}
 use Rattle.grib2_message.specs.Acceptance.{section_fault_under, verdict_from, verdict_under}
@@ -72,8 +72,8 @@ record Accepts (profile : Profile) (m : List ℕ) (total : ℕ) : Type 0 where
 
 accepts : (profile : Profile) (m : List ℕ) (total : ℕ) → edition m ≢ 1 → verdict_under profile m ≡ Accepted total → Accepts profile m total
 accepts profile m total other e =
-    let told = unless_tells (first_fault (head_rows m)) (λ _. verdict_from profile (length m + 1) m [] 17) total e in
-    record { head = head_passes m other (passes_from_none (head_rows m) told.0); walked = told.1 }
+    let told = unless_tells (first_fault (head_rules m)) (λ _. verdict_from profile (length m + 1) m [] 17) total e in
+    record { head = head_passes m other (passes_from_none (head_rules m) told.0); walked = told.1 }
 
 pub accepted_states : (profile : Profile) (m : List ℕ) (total : ℕ) → edition m ≢ 1 → verdict_under profile m ≡ Accepted total → total_length m ≡ total
 accepted_states profile m total other e = (reached profile (length m + 1) m [] 17 total (accepts profile m total other e).walked).states
@@ -96,6 +96,6 @@ accepted_alone profile m total other e =
     let h : IsFront u m = front_of m total there in
     let second : edition u ≡ 2 = sym (same_octets u m 8 8 h (omega arith) (omega arith) (omega arith)) ∙ a.head.second_edition in
     let states_u : total_length u ≡ total = sym (same_octets u m 9 16 h (omega arith) (omega arith) (omega arith)) ∙ states in
-    unless_none (first_fault (head_rows u)) (λ _. verdict_from profile (length u + 1) u [] 17)
-    (none_from_passes (head_rows u) (head_pass u second (omega arith) (omega arith) (omega arith)))
+    unless_none (first_fault (head_rules u)) (λ _. verdict_from profile (length u + 1) u [] 17)
+    (none_from_passes (head_rules u) (head_pass u second (omega arith) (omega arith) (omega arith)))
     ∙ front_walked profile (length m + 1) (length u + 1) u m [] 17 total h least (omega arith) states_u (omega arith) (omega arith) (omega arith) a.walked

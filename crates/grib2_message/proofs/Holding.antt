@@ -1,4 +1,4 @@
--- What each field of an accepted message holds: its sections pass their rows, and its mask has a bit for each
+-- What each field of an accepted message holds: its sections pass their rules, and its mask has a bit for each
 -- point.
 use Rattle.std.proofs.Common.{◌≡◌, ℕ, zero, suc, ◌+◌, ◌-◌, ◌≤◌, ◌<◌, Bool, true, false, not, cond, ◌&&◌, Option, None, List, [], ◌∷◌, length, take, drop, replicate, ◌==◌, unwrap_or, inl, inr, sym, ap, ◌∙◌, arith, subst, eq-eqb, eqb-true}
 use Rattle.std.specs.List.{count_by}
@@ -8,8 +8,8 @@ use Rattle.grib_bits.specs.Octets.{num_on, octets}
 use Rattle.grib_bits.proofs.OctetBits.{AreOctets}
 use Rattle.grib_bits.proofs.OctetNumbers.{AreOctets-drop, AreOctets-octet_list}
 use Rattle.grib_base.specs.declared.profile.Profile.{Profile}
-use Rattle.grib_base.specs.Rows.{first_fault, choose}
-use Rattle.grib_bitmap.specs.Mask.{bitmap_indicator, bitmap_rows, mask_of, own_mask}
+use Rattle.grib_base.specs.Rules.{first_fault, choose}
+use Rattle.grib_bitmap.specs.Mask.{bitmap_indicator, bitmap_rules, mask_of, own_mask}
 use Rattle.grib_packing.specs.Packing.{value_count}
 use Rattle.grib2_grids.specs.Grid.{grid_points}
 use Rattle.grib2_sections.specs.Frame.{Placed, placed_at, section_at, section_number, ends_at}
@@ -41,7 +41,7 @@ ends_field : (profile : Profile) (sections : List (List ℕ)) (before : List Pla
 ends_field profile [] before q i follow h within = absurd (omega arith)
 ends_field profile (s ∷ sections) before q zero follow h within =
     let p = placed_at q s in
-    let sound = sound_after profile p before h (follows_tells (last_number before) (section_number s) follow.0.follows) follow.0.rows_hold in
+    let sound = sound_after profile p before h (follows_tells (last_number before) (section_number s) follow.0.follows) follow.0.rules_hold in
     let rest = placed_from (q + length s) sections in
     elim (cases_eq (section_number s) 7) [
       | inl seven ↦ subst (λ (xs : List Placed). EndsField profile xs) (sym (up_here p before rest seven)) (record { sound = sound; ends = seven })
@@ -51,7 +51,7 @@ ends_field profile (s ∷ sections) before q zero follow h within =
     ]
 ends_field profile (s ∷ sections) before q (suc i) follow h within =
     let p = placed_at q s in
-    let sound = sound_after profile p before h (follows_tells (last_number before) (section_number s) follow.0.follows) follow.0.rows_hold in
+    let sound = sound_after profile p before h (follows_tells (last_number before) (section_number s) follow.0.follows) follow.0.rules_hold in
     let rest = placed_from (q + length s) sections in
     elim (cases_eq (section_number s) 7) [
       | inl seven ↦
@@ -128,11 +128,11 @@ first_small (x ∷ xs) small = let low : x < 256 = small 0 in omega arith
 indicator_small : (s : List ℕ) → AreOctets s → bitmap_indicator s < 256
 indicator_small s small = first_small (drop 5 s) (AreOctets-drop 5 s small)
 
-long_mask : (s : List ℕ) (points values : ℕ) (earlier : Option (List Bool)) → bitmap_indicator s < 256 → first_fault (bitmap_rows s points values earlier) ≡ None
+long_mask : (s : List ℕ) (points values : ℕ) (earlier : Option (List Bool)) → bitmap_indicator s < 256 → first_fault (bitmap_rules s points values earlier) ≡ None
     → length (mask_of s points earlier) ≡ points
 long_mask s points values earlier small none = elim (cases_eq (bitmap_indicator s) 254) [
   | inl repeats ↦
-      let p = passes_from_none (bitmap_rows s points values earlier) none in
+      let p = passes_from_none (bitmap_rules s points values earlier) none in
       let is : mask_of s points earlier ≡ unwrap_or earlier [] =
       ap (λ (i : ℕ). cond (i == 255) (replicate points true) (cond (i == 254) (unwrap_or earlier []) (own_mask s points))) repeats in
       ap length is

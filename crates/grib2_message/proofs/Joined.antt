@@ -5,10 +5,10 @@ use Rattle.std.proofs.lemmas.Bool.{and_left, and_right, or_from, not_from_true}
 use Rattle.std.proofs.lemmas.List.{take-append-le, drop-append-le}
 use Rattle.grib_bits.specs.Octets.{octets, num_on}
 use Rattle.grib_base.specs.declared.profile.Profile.{Profile}
-use Rattle.grib_base.specs.Rows.{first_fault}
+use Rattle.grib_base.specs.Rules.{first_fault}
 use Rattle.grib2_sections.specs.Verdict.{Accepted}
 use Rattle.grib2_sections.specs.Head.{total_length, end_mark}
-use Rattle.grib2_sections.specs.Frame.{Placed, placed_at, section_at, section_length, section_number, may_follow, may_end, ends_at, mark_rows, frame_rows}
+use Rattle.grib2_sections.specs.Frame.{Placed, placed_at, section_at, section_length, section_number, may_follow, may_end, ends_at, mark_rules, frame_rules}
 use Rattle.grib2_message.specs.View.{last_number}
 use Rattle.grib2_message.specs.Acceptance.{section_fault_under, verdict_from}
 use Rattle.grib2_message.specs.Grammar.{IsSection, AreSections}
@@ -40,9 +40,9 @@ pub ends_here : (m : List ℕ) (q total : ℕ) (after : List ℕ) → Stand m q 
 ends_here m q total after h =
     eq-eqb (octets m q (q + 3)) 926365495 (ap (num_on 0) (four_at m q) ∙ ap (λ xs. num_on 0 (take 4 xs)) h.joined)
 
--- and the rows of a mark pass there
+-- and the rules of a mark pass there
 pub marks_pass : (m : List ℕ) (total last q : ℕ) → ends_at m q ≡ true → q + 3 ≡ total → total ≤ length m → IsTrue (may_end last)
-    → AllPass (mark_rows m total last q)
+    → AllPass (mark_rules m total last q)
 marks_pass m total last q ends at long may = (
   le-ltb (length m) (q + 3) (omega arith),
   (
@@ -91,9 +91,9 @@ begins m q total s sections after length_stands least h =
       };
     }
 
--- the rows of a mark pass where no End Section stands, before the end
+-- the rules of a mark pass where no End Section stands, before the end
 pub goes_pass : (m : List ℕ) (total last q : ℕ) → ends_at m q ≡ false → q + 3 < total → total ≤ length m
-    → AllPass (mark_rows m total last q)
+    → AllPass (mark_rules m total last q)
 goes_pass m total last q goes before_end long = (
   le-ltb (length m) (q + 3) (omega arith),
   (
@@ -105,10 +105,10 @@ goes_pass m total last q goes before_end long = (
   ),
 )
 
--- and the rows of a frame pass where the section may follow and has room
+-- and the rules of a frame pass where the section may follow and has room
 pub frame_pass : (m : List ℕ) (total last q l number : ℕ) → octets m q (q + 3) ≡ l → octets m (q + 4) (q + 4) ≡ number
     → 1 ≤ q → 5 ≤ l → q - 1 + l + 4 ≤ total → total ≤ length m → IsTrue (may_follow last number)
-    → AllPass (frame_rows m total last q)
+    → AllPass (frame_rules m total last q)
 frame_pass m total last q l number states numbered low least room long follows = (
   le-ltb (length m) (q + 4) (omega arith),
   (
@@ -121,25 +121,25 @@ frame_pass m total last q l number states numbered low least room long follows =
   ),
 )
 
--- the walk goes on after a section that no row refuses
+-- the walk goes on after a section that no rule refuses
 pub goes_on : (profile : Profile) (turns : ℕ) (m : List ℕ) (before : List Placed) (q : ℕ) → ends_at m q ≡ false
-    → AllPass (mark_rows m (total_length m) (last_number before) q) → AllPass (frame_rows m (total_length m) (last_number before) q)
+    → AllPass (mark_rules m (total_length m) (last_number before) q) → AllPass (frame_rules m (total_length m) (last_number before) q)
     → section_fault_under profile before (here m q) ≡ None → verdict_from profile (suc turns) m before q ≡ after_section profile turns m before q
 goes_on profile turns m before q goes marks frame contents =
-    let mark = none_from_passes (mark_rows m (total_length m) (last_number before) q) marks in
-    let framed = none_from_passes (frame_rows m (total_length m) (last_number before) q) frame in
+    let mark = none_from_passes (mark_rules m (total_length m) (last_number before) q) marks in
+    let framed = none_from_passes (frame_rules m (total_length m) (last_number before) q) frame in
     walk_is profile turns m before q
-    ∙ mark_goes (first_fault (mark_rows m (total_length m) (last_number before) q)) (ends_at m q) (total_length m) (λ _. at_section profile turns m before q) mark goes
-    ∙ (unless_none (first_fault (frame_rows m (total_length m) (last_number before) q)) (λ _. at_contents profile turns m before q) framed
+    ∙ mark_goes (first_fault (mark_rules m (total_length m) (last_number before) q)) (ends_at m q) (total_length m) (λ _. at_section profile turns m before q) mark goes
+    ∙ (unless_none (first_fault (frame_rules m (total_length m) (last_number before) q)) (λ _. at_contents profile turns m before q) framed
     ∙ unless_none (section_fault_under profile before (here m q)) (λ _. after_section profile turns m before q) contents)
 
 -- the walk ends at the End Section
 pub stops : (profile : Profile) (turns : ℕ) (m : List ℕ) (before : List Placed) (q : ℕ) → ends_at m q ≡ true
-    → AllPass (mark_rows m (total_length m) (last_number before) q) → verdict_from profile (suc turns) m before q ≡ Accepted (total_length m)
+    → AllPass (mark_rules m (total_length m) (last_number before) q) → verdict_from profile (suc turns) m before q ≡ Accepted (total_length m)
 stops profile turns m before q ends marks =
     walk_is profile turns m before q
-    ∙ mark_ends (first_fault (mark_rows m (total_length m) (last_number before) q)) (ends_at m q) (total_length m) (λ _. at_section profile turns m before q)
-    (none_from_passes (mark_rows m (total_length m) (last_number before) q) marks) ends
+    ∙ mark_ends (first_fault (mark_rules m (total_length m) (last_number before) q)) (ends_at m q) (total_length m) (λ _. at_section profile turns m before q)
+    (none_from_passes (mark_rules m (total_length m) (last_number before) q) marks) ends
 
 -- the walk over a section, where it stands before others
 steps_over : (profile : Profile) (turns : ℕ) (m : List ℕ) (before : List Placed) (q : ℕ) (s : List ℕ) (sections : List (List ℕ)) (after : List ℕ)
@@ -153,7 +153,7 @@ steps_over profile turns m before q s sections after is h b =
     let room : q - 1 + length s + 4 ≤ total_length m = omega (arith, length-append s (concat sections)) in
     let marks = goes_pass m (total_length m) (last_number before) q b.goes (omega arith) long in
     let frame = frame_pass m (total_length m) (last_number before) q (length s) (section_number s) b.states b.numbered low least room long is.follows in
-    let contents : section_fault_under profile before (here m q) ≡ None = ap (λ x. section_fault_under profile before (placed_at q x)) b.is ∙ is.rows_hold in
+    let contents : section_fault_under profile before (here m q) ≡ None = ap (λ x. section_fault_under profile before (placed_at q x)) b.is ∙ is.rules_hold in
     goes_on profile turns m before q b.goes marks frame contents
     ∙ ap (λ x. verdict_from profile turns m (placed_at q x ∷ before) (q + length x)) b.is
 

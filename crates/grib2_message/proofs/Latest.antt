@@ -4,7 +4,7 @@ use Rattle.std.specs.Option.{option_map_or}
 use Rattle.grib_bits.specs.Octets.{octets, StatesItself}
 use Rattle.grib2_sections.specs.Frame.{Placed, placed_at, section_at, section_number}
 use Rattle.grib2_sections.proofs.Frames.{states_itself}
-use Rattle.grib_base.specs.Rows.{choose}
+use Rattle.grib_base.specs.Rules.{choose}
 use Rattle.grib_bitmap.specs.Mask.{bitmap_indicator}
 use Rattle.grib_packings.specs.Field.{IsDataOf}
 use Rattle.grib_packings.specs.declared.data_representation.DataRepresentation.{DataRepresentation}

@@ -5,11 +5,11 @@ use Rattle.std.proofs.lemmas.List.{length-replicate}
 use Rattle.grib_bits.specs.Bits.{bits}
 use Rattle.grib_bits.proofs.OctetBits.{length-bits}
 use Rattle.grib_base.specs.declared.profile.Profile.{Profile}
-use Rattle.grib_base.specs.Rows.{first_fault}
+use Rattle.grib_base.specs.Rules.{first_fault}
 use Rattle.grib2_grids.specs.Grid.{grid_points}
-use Rattle.grib2_grids.specs.Opaque.{grid_rows_under}
+use Rattle.grib2_grids.specs.Opaque.{grid_rules_under}
 use Rattle.grib2_grids.proofs.Under.{grid_point_bounds}
-use Rattle.grib_bitmap.specs.Mask.{bitmap_indicator, bitmap_rows, mask_of, own_mask, present_count}
+use Rattle.grib_bitmap.specs.Mask.{bitmap_indicator, bitmap_rules, mask_of, own_mask, present_count}
 use Rattle.grib_packing.specs.declared.column.Point.{Point}
 use Rattle.grib_packing.specs.Column.{points_with_mask}
 use Rattle.grib_packing.specs.Packing.{value_count}
@@ -21,7 +21,7 @@ use Rattle.grib2_message.specs.declared.places.Places.{Places}
 use Rattle.grib2_message.proofs.Latest.{earlier_stands}
 use Rattle.grib2_message.proofs.Passed.{passes_from_none}
 use Rattle.grib2_message.proofs.Walk.{second_fails}
-use Rattle.grib2_message.proofs.Bitmaps.{mask_alone, rows_alone, mask_from_own}
+use Rattle.grib2_message.proofs.Bitmaps.{mask_alone, rules_alone, mask_from_own}
 
 -- what the code asks of a mask
 pub record IsFieldMask (before : List Placed) (mask : List Bool) : Type 0 where
@@ -36,10 +36,10 @@ long_own s points room =
     let long : length (bits (drop 6 s)) ≡ 8 * length (drop 6 s) = length-bits (drop 6 s) in
     length-take-le points (bits (drop 6 s)) (omega (arith, long, length-drop 6 s))
 
-pub long_alone : (s : List ℕ) (points values : ℕ) (earlier : Option (List Bool)) → bitmap_indicator s < 256 → bitmap_indicator s ≢ 254 → first_fault (bitmap_rows s points values earlier) ≡ None
+pub long_alone : (s : List ℕ) (points values : ℕ) (earlier : Option (List Bool)) → bitmap_indicator s < 256 → bitmap_indicator s ≢ 254 → first_fault (bitmap_rules s points values earlier) ≡ None
     → length (mask_of s points earlier) ≡ points
 long_alone s points values earlier small other none =
-    let p = passes_from_none (bitmap_rows s points values earlier) none in
+    let p = passes_from_none (bitmap_rules s points values earlier) none in
     let i = bitmap_indicator s in
     elim (cases_eq i 0) [
       | inl own ↦
@@ -52,42 +52,42 @@ long_alone s points values earlier small other none =
           ∙ length-replicate points true
     ]
 
-pub present_of : (s : List ℕ) (points values : ℕ) (earlier : Option (List Bool)) → first_fault (bitmap_rows s points values earlier) ≡ None
+pub present_of : (s : List ℕ) (points values : ℕ) (earlier : Option (List Bool)) → first_fault (bitmap_rules s points values earlier) ≡ None
     → present_count (mask_of s points earlier) ≡ values
 present_of s points values earlier none =
-    let p = passes_from_none (bitmap_rows s points values earlier) none in
+    let p = passes_from_none (bitmap_rules s points values earlier) none in
     eqb-true (present_count (mask_of s points earlier)) values (not-false (present_count (mask_of s points earlier) == values) p.1.1.1.1.1.0)
 
 module _ (m : List ℕ) (before : List Placed) (places : Places) (h : IsField m before places) where
-  rows : first_fault (bitmap_rows (octets_in_force 6 before) (points_in_force before) (value_count (octets_in_force 5 before)) (earlier_mask before)) ≡ None
-  rows = h.stand.force.sound.bitmap (omega (arith, h.ends))
+  rules : first_fault (bitmap_rules (octets_in_force 6 before) (points_in_force before) (value_count (octets_in_force 5 before)) (earlier_mask before)) ≡ None
+  rules = h.stand.force.sound.bitmap (omega (arith, h.ends))
 
   mask : mask_in_force before ≡ mask_of (octets_in_force 6 before) (points_in_force before) (earlier_mask before)
   mask = h.stand.force.sound.mask (omega (arith, h.ends))
 
   present : present_count (mask_in_force before) ≡ value_count (octets_in_force 5 before)
-  present = ap present_count mask ∙ present_of (octets_in_force 6 before) (points_in_force before) (value_count (octets_in_force 5 before)) (earlier_mask before) rows
+  present = ap present_count mask ∙ present_of (octets_in_force 6 before) (points_in_force before) (value_count (octets_in_force 5 before)) (earlier_mask before) rules
 
   is_field_mask : (found : List Bool) → found ≡ mask_in_force before → length (mask_in_force before) ≡ points_in_force before → IsFieldMask before found
   is_field_mask found is long = record { is = is; long = ap length is ∙ long; values = ap present_count is ∙ present }
 
-  pub rows_without : bitmap_indicator (octets_in_force 6 before) ≢ 254
-      → first_fault (bitmap_rows (octets_in_force 6 before) (points_in_force before) (value_count (octets_in_force 5 before)) None) ≡ None
-  rows_without other =
-      rows_alone (octets_in_force 6 before) (points_in_force before) (value_count (octets_in_force 5 before)) other None (earlier_mask before) ∙ rows
+  pub rules_without : bitmap_indicator (octets_in_force 6 before) ≢ 254
+      → first_fault (bitmap_rules (octets_in_force 6 before) (points_in_force before) (value_count (octets_in_force 5 before)) None) ≡ None
+  rules_without other =
+      rules_alone (octets_in_force 6 before) (points_in_force before) (value_count (octets_in_force 5 before)) other None (earlier_mask before) ∙ rules
 
   pub mask_without : (found : List Bool) → bitmap_indicator (octets_in_force 6 before) < 256 → bitmap_indicator (octets_in_force 6 before) ≢ 254
       → found ≡ mask_of (octets_in_force 6 before) (points_in_force before) None → IsFieldMask before found
   mask_without found small other is =
       is_field_mask found
       (is ∙ mask_alone (octets_in_force 6 before) (points_in_force before) 0 other None (earlier_mask before) ∙ sym mask)
-      (ap length mask ∙ long_alone (octets_in_force 6 before) (points_in_force before) (value_count (octets_in_force 5 before)) (earlier_mask before) small other rows)
+      (ap length mask ∙ long_alone (octets_in_force 6 before) (points_in_force before) (value_count (octets_in_force 5 before)) (earlier_mask before) small other rules)
 
   -- ---- one that does
 
   earlier_there : bitmap_indicator (octets_in_force 6 before) ≡ 254 → earlier_mask before ≢ None
   earlier_there repeats none =
-      let p = passes_from_none (bitmap_rows (octets_in_force 6 before) (points_in_force before) (value_count (octets_in_force 5 before)) (earlier_mask before)) rows in
+      let p = passes_from_none (bitmap_rules (octets_in_force 6 before) (points_in_force before) (value_count (octets_in_force 5 before)) (earlier_mask before)) rules in
       let off : is_none (earlier_mask before) ≡ false = second_fails (bitmap_indicator (octets_in_force 6 before) == 254) (is_none (earlier_mask before)) p.1.1.0 (eq-eqb _ 254 repeats) in
       let on : is_none (earlier_mask before) ≡ true = ap is_none none in
       absurd (cc)
@@ -131,7 +131,7 @@ module _ (m : List ℕ) (before : List Placed) (places : Places) (h : IsField m 
   mask_repeated bitmap found repeats r is =
       let s = octets_in_force 6 before in
       let points = points_in_force before in
-      let p = passes_from_none (bitmap_rows s points (value_count (octets_in_force 5 before)) (earlier_mask before)) rows in
+      let p = passes_from_none (bitmap_rules s points (value_count (octets_in_force 5 before)) (earlier_mask before)) rules in
       let force : mask_in_force before ≡ unwrap_or (earlier_mask before) [] =
       mask ∙ ap (λ (i : ℕ). cond (i == 255) (replicate points true) (cond (i == 254) (unwrap_or (earlier_mask before) []) (own_mask s points))) repeats in
       let same : mask_in_force before ≡ own_mask r.section.octets (points_in_force r.others) = force ∙ ap (λ (xs : List Placed). unwrap_or (bitmap_mask xs) []) r.is in
@@ -146,7 +146,7 @@ module _ (m : List ℕ) (before : List Placed) (places : Places) (h : IsField m 
       (ap length force ∙ size)
 
 -- the number of points of a grid that is accepted
-pub points_bounds : (profile : Profile) (s : List ℕ) → first_fault (grid_rows_under profile s) ≡ None → (1 ≤ grid_points s) × (grid_points s ≤ 33554432)
+pub points_bounds : (profile : Profile) (s : List ℕ) → first_fault (grid_rules_under profile s) ≡ None → (1 ≤ grid_points s) × (grid_points s ≤ 33554432)
 points_bounds profile s none = grid_point_bounds profile s none
 
 -- a column has a point for each bit of its mask

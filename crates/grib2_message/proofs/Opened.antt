@@ -1,20 +1,20 @@
 -- What the profile of the stated templates accepts, each profile accepts; and where no template is another, it accepts what
 -- each profile accepts.
 use Rattle.std.proofs.Common.{◌≡◌, ℕ, zero, suc, ◌+◌, None, List, [], ◌∷◌, length, get_or, inl, inr, refl, sym, ap, ◌∙◌, subst, add-one}
-use Rattle.grib_base.specs.Rows.{Row, first_fault, first_fault_at, located}
+use Rattle.grib_base.specs.Rules.{Rule, first_fault, first_fault_at, located}
 use Rattle.grib_base.specs.declared.profile.Profile.{Profile}
 use Rattle.grib_base.specs.declared.profile.Profile.TheVariants.{Stated, Open}
 use Rattle.grib2_sections.specs.Verdict.{Accepted}
-use Rattle.grib2_sections.specs.Head.{head_rows}
+use Rattle.grib2_sections.specs.Head.{head_rules}
 use Rattle.grib2_sections.specs.Frame.{Placed, section_at, section_number, ends_at}
-use Rattle.grib2_grids.specs.Grid.{grid_points, grid_rows}
-use Rattle.grib2_grids.proofs.Under.{same_grid_rows, grid_accepted}
-use Rattle.grib2_products.specs.Product.{product_rows}
-use Rattle.grib2_products.proofs.Under.{same_product_rows, product_accepted}
+use Rattle.grib2_grids.specs.Grid.{grid_points, grid_rules}
+use Rattle.grib2_grids.proofs.Under.{same_grid_rules, grid_accepted}
+use Rattle.grib2_products.specs.Product.{product_rules}
+use Rattle.grib2_products.proofs.Under.{same_product_rules, product_accepted}
 use Rattle.grib_packing.specs.Entries.{packing_fault_under}
 use Rattle.grib_packing.proofs.OpaquePackings.{accepted_known, opened_under, read_under, stated_accepts, stated_under}
 use Rattle.grib2_message.specs.View.{points_in_force, section_count}
-use Rattle.grib2_message.specs.Acceptance.{contents_faults, no_rows, section_fault_under, verdict_from, verdict_under}
+use Rattle.grib2_message.specs.Acceptance.{contents_faults, no_rules, section_fault_under, verdict_from, verdict_under}
 use Rattle.grib2_message.specs.Fields.{sections_from, sections_of, part_octets}
 use Rattle.grib2_message.specs.Grammar.{HasStatedTemplate, HaveStatedTemplates}
 use Rattle.grib2_message.specs.Message.{IsMessageUnder, IsAnyMessage, FieldPassesUnder, AnyFieldPasses, FieldReadsUnder, HasValues}
@@ -25,15 +25,15 @@ use Rattle.grib2_message.proofs.Placing.{some_found}
 use Rattle.grib2_message.proofs.Joined.{goes_on, stops}
 
 module _ (profile : Profile) where
-  by_number : (n : ℕ) (before : List Placed) (s : Placed) → get_or (contents_faults Stated) n no_rows before s ≡ None → get_or (contents_faults profile) n no_rows before s ≡ None
+  by_number : (n : ℕ) (before : List Placed) (s : Placed) → get_or (contents_faults Stated) n no_rules before s ≡ None → get_or (contents_faults profile) n no_rules before s ≡ None
   by_number zero before s none = none
   by_number (suc zero) before s none = none
   by_number (suc (suc zero)) before s none = none
   by_number (suc (suc (suc zero))) before s none =
-      ap (located s.start) (grid_accepted profile s.octets (none_located s.start (first_fault (grid_rows s.octets)) none))
+      ap (located s.start) (grid_accepted profile s.octets (none_located s.start (first_fault (grid_rules s.octets)) none))
   by_number (suc (suc (suc (suc zero)))) before s none =
       let n = section_count 4 before + 1 in
-      ap (located s.start) (product_accepted profile s.octets n (none_located s.start (first_fault (product_rows s.octets n)) none))
+      ap (located s.start) (product_accepted profile s.octets n (none_located s.start (first_fault (product_rules s.octets n)) none))
   by_number (suc (suc (suc (suc (suc zero))))) before s none =
       let points = points_in_force before in
       ap (located s.start) (opened_under profile s.octets points (none_located s.start (packing_fault_under Stated s.octets points) none))
@@ -60,8 +60,8 @@ module _ (profile : Profile) where
   -- the first octets of an input
   pub verdict_opened : (rest : List ℕ) (total : ℕ) → verdict_under Stated rest ≡ Accepted total → verdict_under profile rest ≡ Accepted total
   verdict_opened rest total e =
-      let told = unless_tells (first_fault (head_rows rest)) (λ _. verdict_from Stated (length rest + 1) rest [] 17) total e in
-      unless_none (first_fault (head_rows rest)) (λ _. verdict_from profile (length rest + 1) rest [] 17) told.0
+      let told = unless_tells (first_fault (head_rules rest)) (λ _. verdict_from Stated (length rest + 1) rest [] 17) total e in
+      unless_none (first_fault (head_rules rest)) (λ _. verdict_from profile (length rest + 1) rest [] 17) told.0
       ∙ walk_opened (length rest + 1) rest [] 17 total told.1
 
   -- a message
@@ -71,13 +71,13 @@ module _ (profile : Profile) where
   -- ---- where all templates are stated ones
 
   closed_number : (n : ℕ) (before : List Placed) (s : Placed) → section_number s.octets ≡ n → HasStatedTemplate s
-      → get_or (contents_faults profile) n no_rows before s ≡ None → get_or (contents_faults Stated) n no_rows before s ≡ None
+      → get_or (contents_faults profile) n no_rules before s ≡ None → get_or (contents_faults Stated) n no_rules before s ≡ None
   closed_number zero before s e h none = none
   closed_number (suc zero) before s e h none = none
   closed_number (suc (suc zero)) before s e h none = none
-  closed_number (suc (suc (suc zero))) before s e h none = ap (λ (rows : List Row). first_fault_at s.start rows) (sym (same_grid_rows profile s.octets (h.grid e))) ∙ none
+  closed_number (suc (suc (suc zero))) before s e h none = ap (λ (rules : List Rule). first_fault_at s.start rules) (sym (same_grid_rules profile s.octets (h.grid e))) ∙ none
   closed_number (suc (suc (suc (suc zero)))) before s e h none =
-      ap (λ (rows : List Row). first_fault_at s.start rows) (sym (same_product_rows profile s.octets (section_count 4 before + 1) (h.product e))) ∙ none
+      ap (λ (rules : List Rule). first_fault_at s.start rules) (sym (same_product_rules profile s.octets (section_count 4 before + 1) (h.product e))) ∙ none
   closed_number (suc (suc (suc (suc (suc zero))))) before s e h none =
       let points = points_in_force before in
       ap (located s.start) (stated_under Stated s.octets points (h.packing e) ∙ sym (stated_under profile s.octets points (h.packing e))) ∙ none
@@ -109,12 +109,12 @@ module _ (profile : Profile) where
 
   pub verdict_closed : (rest : List ℕ) (total : ℕ) → HaveStatedTemplates (sections_of rest) → verdict_under profile rest ≡ Accepted total → verdict_under Stated rest ≡ Accepted total
   verdict_closed rest total h e =
-      let told = unless_tells (first_fault (head_rows rest)) (λ _. verdict_from profile (length rest + 1) rest [] 17) total e in
-      unless_none (first_fault (head_rows rest)) (λ _. verdict_from Stated (length rest + 1) rest [] 17) told.0
+      let told = unless_tells (first_fault (head_rules rest)) (λ _. verdict_from profile (length rest + 1) rest [] 17) total e in
+      unless_none (first_fault (head_rules rest)) (λ _. verdict_from Stated (length rest + 1) rest [] 17) told.0
       ∙ ap (λ (t : ℕ). verdict_from Stated t rest [] 17) (add-one (length rest))
       ∙ walk_closed (length rest) rest [] 17 total h (ap (λ (t : ℕ). verdict_from profile t rest [] 17) (sym (add-one (length rest))) ∙ told.1)
 
--- no row of the open profile refuses the sections of a field that no row of another refuses
+-- no rule of the open profile refuses the sections of a field that no rule of another refuses
 pub field_opened : (profile : Profile) (m : List ℕ) (i : ℕ) → FieldPassesUnder profile m i → AnyFieldPasses m i
 field_opened Open m i h = h
 field_opened Stated m i h = record {

@@ -1,5 +1,6 @@
 -- Which sections may follow one another, in numbers.
-use Rattle.std.proofs.Common.{◌≡◌, ◌≢◌, ℕ, zero, suc, ◌+◌, ◌≤◌, Bool, true, false, ◌||◌, IsTrue, ◌⊎◌, inl, inr, ◌==◌, refl, sym, arith, eqb-true, ne_eqb}
+use Rattle.std.proofs.Common.{◌≡◌, ◌≢◌, ℕ, zero, suc, ◌+◌, ◌≤◌, true, false, ◌||◌, IsTrue, inl, inr, ◌==◌, refl, sym, arith, eqb-true, ne_eqb}
+use Rattle.std.proofs.lemmas.Bool.{or_cases}
 use Rattle.grib2_sections.specs.Frame.{may_follow}
 use Rattle.grib2_message.specs.Kept.{begun}
 
@@ -9,17 +10,13 @@ pub data Follows (last n : ℕ) : Type 0 where
   skips : last ≡ 1 → n ≡ 3 → Follows last n
   again : last ≡ 7 → 2 ≤ n → n ≤ 4 → Follows last n
 
-or_parts_true : (a b : Bool) → (a || b) ≡ true → (a ≡ true) ⊎ (b ≡ true)
-or_parts_true true b e = inl refl
-or_parts_true false b e = inr e
-
 one_of : (a n : ℕ) → ((a == n) || false) ≡ true → a ≡ n
-one_of a n e = elim (or_parts_true (a == n) false e) [ inl h ↦ eqb-true a n h | inr h ↦ cc ]
+one_of a n e = elim (or_cases (a == n) false e) [ inl h ↦ eqb-true a n h | inr h ↦ cc ]
 
 pub follows_tells : (last n : ℕ) → IsTrue (may_follow last n) → Follows last n
 follows_tells zero n e = let one = one_of 1 n e in next (omega arith) (omega arith)
 follows_tells (suc zero) n e =
-    elim (or_parts_true (2 == n) ((3 == n) || false) e) [
+    elim (or_cases (2 == n) ((3 == n) || false) e) [
       | inl h ↦ let two = eqb-true 2 n h in next (omega arith) (omega arith)
       | inr h ↦ let three = one_of 3 n h in skips refl (sym three)
     ]
@@ -29,9 +26,9 @@ follows_tells (suc (suc (suc (suc zero)))) n e = let one = one_of 5 n e in next 
 follows_tells (suc (suc (suc (suc (suc zero))))) n e = let one = one_of 6 n e in next (omega arith) (omega arith)
 follows_tells (suc (suc (suc (suc (suc (suc zero)))))) n e = let one = one_of 7 n e in next (omega arith) (omega arith)
 follows_tells (suc (suc (suc (suc (suc (suc (suc zero))))))) n e =
-    elim (or_parts_true (2 == n) ((3 == n) || ((4 == n) || false)) e) [
+    elim (or_cases (2 == n) ((3 == n) || ((4 == n) || false)) e) [
       | inl h ↦ let two = eqb-true 2 n h in again refl (omega arith) (omega arith)
-      | inr h ↦ elim (or_parts_true (3 == n) ((4 == n) || false) h) [
+      | inr h ↦ elim (or_cases (3 == n) ((4 == n) || false) h) [
         | inl g ↦ let three = eqb-true 3 n g in again refl (omega arith) (omega arith)
         | inr g ↦ let four = one_of 4 n g in again refl (omega arith) (omega arith)
       ]

@@ -4,9 +4,9 @@ use Rattle.std.proofs.Common.{◌≡◌, ◌≢◌, ℕ, zero, suc, ◌+◌, ◌
 use Rattle.std.proofs.lemmas.List.{take-append-le}
 use Rattle.std.specs.List.{concat}
 use Rattle.grib_base.specs.declared.profile.Profile.{Profile}
-use Rattle.grib_base.specs.Rows.{first_fault}
+use Rattle.grib_base.specs.Rules.{first_fault}
 use Rattle.grib2_sections.specs.Verdict.{Accepted}
-use Rattle.grib2_sections.specs.Head.{indicator, end_mark, edition, total_length, head_rows}
+use Rattle.grib2_sections.specs.Head.{indicator, end_mark, edition, total_length, head_rules}
 use Rattle.grib2_sections.specs.Frame.{Placed, section_at, ends_at}
 use Rattle.grib2_message.specs.View.{last_number}
 use Rattle.grib2_message.specs.Acceptance.{verdict_from}
@@ -70,8 +70,8 @@ message_states profile m h = accepted_states profile m (length m) (second_editio
 -- the sections of a message
 pub message_parted : (profile : Profile) (m : List ℕ) → IsMessageUnder profile m → Parted profile m [] 17 (length m)
 message_parted profile m h =
-    let told = unless_tells (first_fault (head_rows m)) (λ _. verdict_from profile (length m + 1) m [] 17) (length m) h.accepted in
-    let p = head_passes m (second_edition profile m h) (passes_from_none (head_rows m) told.0) in
+    let told = unless_tells (first_fault (head_rules m)) (λ _. verdict_from profile (length m + 1) m [] 17) (length m) h.accepted in
+    let p = head_passes m (second_edition profile m h) (passes_from_none (head_rules m) told.0) in
     parted profile (length m + 1) (length m) m [] 17 (length m) told.1 (omega arith) (omega (arith, p.least)) (omega (arith, message_states profile m h))
 
 -- sixteen octets that may be Section 0 of a message of this length
@@ -84,8 +84,8 @@ pub record IsHead (head : List ℕ) (total : ℕ) : Type 0 where
 -- it has 20 octets at least
 pub message_least : (profile : Profile) (m : List ℕ) → IsMessageUnder profile m → 20 ≤ length m
 message_least profile m h =
-    let told = unless_tells (first_fault (head_rows m)) (λ _. verdict_from profile (length m + 1) m [] 17) (length m) h.accepted in
-    let p = head_passes m (second_edition profile m h) (passes_from_none (head_rows m) told.0) in
+    let told = unless_tells (first_fault (head_rules m)) (λ _. verdict_from profile (length m + 1) m [] 17) (length m) h.accepted in
+    let p = head_passes m (second_edition profile m h) (passes_from_none (head_rules m) told.0) in
     omega (arith, p.least, message_states profile m h)
 
 -- Section 0, sections that may follow one another, and the End Section are in the grammar
@@ -110,6 +110,6 @@ joined_grammar profile head sections h most follow =
 -- and 268,435,456 at most
 pub message_most : (profile : Profile) (m : List ℕ) → IsMessageUnder profile m → length m ≤ 268435456
 message_most profile m h =
-    let told = unless_tells (first_fault (head_rows m)) (λ _. verdict_from profile (length m + 1) m [] 17) (length m) h.accepted in
-    let p = head_passes m (second_edition profile m h) (passes_from_none (head_rows m) told.0) in
+    let told = unless_tells (first_fault (head_rules m)) (λ _. verdict_from profile (length m + 1) m [] 17) (length m) h.accepted in
+    let p = head_passes m (second_edition profile m h) (passes_from_none (head_rules m) told.0) in
     omega (arith, p.most, message_states profile m h)

@@ -1,7 +1,8 @@
 -- Octets of a message as the front of what is left of it from an octet on.
-use Rattle.std.proofs.Common.{◌≡◌, ℕ, ◌+◌, ◌-◌, ◌*◌, ◌<◌, ◌≤◌, List, [], ◌∷◌, length, take, drop, ap, sym, ◌∙◌, arith, All, take-take, drop-drop}
+use Rattle.std.proofs.Common.{◌≡◌, ℕ, ◌+◌, ◌-◌, ◌<◌, ◌≤◌, List, [], ◌∷◌, length, take, drop, ap, sym, ◌∙◌, arith, All, take-take, drop-drop}
 use Rattle.std.proofs.lemmas.List.{drop-take}
 use Rattle.grib_bits.specs.Octets.{num_on, octets, octet_list}
+use Rattle.grib_bits.proofs.Counted.{mark_number}
 use Rattle.grib2_sections.specs.Head.{end_mark}
 use Rattle.grib2_sections.specs.Frame.{section_at, section_length, section_number}
 
@@ -38,16 +39,6 @@ front_number left l least =
     let low : 1 ≤ l - 4 = omega arith in
     ap (λ k. num_on 0 (take 1 (drop 4 (take k left)))) e
     ∙ (ap (λ xs. num_on 0 (take 1 xs)) (drop-take 4 (l - 4) left) ∙ ap (num_on 0) (take-take 1 (l - 4) (drop 4 left) low))
-
--- four numbers below 256 that make the number of `7777`
-mark_number : (a b c d : ℕ) → a < 256 → b < 256 → c < 256 → d < 256
-    → (((0 * 256 + a) * 256 + b) * 256 + c) * 256 + d ≡ 926365495
-    → (a ≡ 55) × (b ≡ 55) × (c ≡ 55) × (d ≡ 55)
-mark_number a b c d ha hb hc hd e =
-    let first : a ≡ 55 = omega arith in
-    let second : b ≡ 55 = omega arith in
-    let third : c ≡ 55 = omega arith in
-    (first, second, third, omega arith)
 
 -- so four octets that make it are `7777`
 pub mark_from_number : (left : List ℕ) → 4 ≤ length left → All (λ octet. octet < 256) (take 4 left) → num_on 0 (take 4 left) ≡ 926365495

@@ -1,36 +1,10 @@
--- Rows that do not refuse, and what follows a verdict that accepts.
-use Rattle.std.proofs.Common.{◌≡◌, ℕ, Bool, true, false, cond, ◌⊎◌, Option, Some, None, List, [], ◌∷◌, refl, inl, inr}
+-- What follows a verdict that accepts.
+use Rattle.std.proofs.Common.{◌≡◌, ℕ, Bool, true, false, ◌⊎◌, Option, Some, None, refl, inl, inr}
 use Rattle.grib_base.specs.declared.fault.Fault.{Fault}
-use Rattle.grib_base.specs.Rows.{Row, first_fault, choose}
+use Rattle.grib_base.specs.Rules.{choose}
+pub use Rattle.grib_base.proofs.Passing.{AllPass, passes_from_none, none_from_passes}
 use Rattle.grib2_sections.specs.Verdict.{Verdict, Accepted}
 use Rattle.grib2_message.specs.Acceptance.{unless_refused}
-
--- no row's test holds
-abbrev pub AllPass : List Row → Type 0
-AllPass [] = Unit {0}
-AllPass (r ∷ rows) = (r.fails ≡ false) × AllPass rows
-
--- where no fault comes out of a row and those after it, the row's test does not hold, nor do theirs refuse
-none_of_two : (b : Bool) (fault : Fault) (later : Option Fault) → cond b (Some fault) later ≡ None → (b ≡ false) × (later ≡ None)
-none_of_two true fault later e = cc
-none_of_two false fault later e = (refl, e)
-
--- and where neither refuses, no fault comes out
-none_after : (b : Bool) (fault : Fault) (later : Option Fault) → b ≡ false → later ≡ None → cond b (Some fault) later ≡ None
-none_after true fault later off e = cc
-none_after false fault later off e = e
-
--- where no row refuses, no row's test holds
-pub passes_from_none : (rows : List Row) → first_fault rows ≡ None → AllPass rows
-passes_from_none [] e = tt
-passes_from_none (r ∷ rows) e =
-    let both = none_of_two r.fails r.fault (first_fault rows) e in
-    (both.0, passes_from_none rows both.1)
-
--- where no row's test holds, no row refuses
-pub none_from_passes : (rows : List Row) → AllPass rows → first_fault rows ≡ None
-none_from_passes [] p = refl
-none_from_passes (r ∷ rows) p = none_after r.fails r.fault (first_fault rows) p.0 (none_from_passes rows p.1)
 
 -- what comes after a place that does not refuse is accepted
 pub unless_tells : (fault : Option Fault) (next : Unit {0} → Verdict) (total : ℕ) → unless_refused fault next ≡ Accepted total

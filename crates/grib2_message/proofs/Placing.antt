@@ -2,7 +2,7 @@
 use Rattle.std.proofs.Common.{◌≡◌, ℕ, zero, suc, ◌+◌, ◌<◌, Bool, true, false, List, [], ◌∷◌, length, map, refl, ap, ◌∙◌, arith, length-append}
 use Rattle.std.specs.List.{concat}
 use Rattle.grib_base.specs.declared.profile.Profile.{Profile}
-use Rattle.grib_base.specs.Rows.{choose}
+use Rattle.grib_base.specs.Rules.{choose}
 use Rattle.grib2_sections.specs.Frame.{Placed, placed_at, section_at, ends_at}
 use Rattle.grib2_message.specs.Grammar.{AreSections}
 use Rattle.grib2_message.specs.Fields.{sections_from}

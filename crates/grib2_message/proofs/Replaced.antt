@@ -6,19 +6,19 @@ use Rattle.std.proofs.lemmas.Option.{same_Some, slice_get_within}
 use Rattle.grib_bits.specs.Octets.{StatesItself}
 use Rattle.grib_base.specs.declared.profile.Profile.{Profile}
 use Rattle.grib_base.specs.declared.fault.Fault.{Fault}
-use Rattle.grib_base.specs.Rows.{first_fault, located}
+use Rattle.grib_base.specs.Rules.{first_fault, located}
 use Rattle.grib2_sections.specs.Frame.{Placed, placed_at, section_number, may_end}
-use Rattle.grib2_sections.specs.Identification.{identification_rows}
+use Rattle.grib2_sections.specs.Identification.{identification_rules}
 use Rattle.grib2_grids.specs.Grid.{grid_points}
-use Rattle.grib2_grids.specs.Opaque.{grid_rows_under}
+use Rattle.grib2_grids.specs.Opaque.{grid_rules_under}
 use Rattle.grib2_grids.proofs.Under.{grid_header_length}
-use Rattle.grib2_products.specs.Opaque.{product_rows_under}
-use Rattle.grib_bitmap.specs.Mask.{bitmap_indicator, bitmap_rows, mask_of}
+use Rattle.grib2_products.specs.Opaque.{product_rules_under}
+use Rattle.grib_bitmap.specs.Mask.{bitmap_indicator, bitmap_rules, mask_of}
 use Rattle.grib_packing.specs.Packing.{value_count}
 use Rattle.grib_packing.specs.Entries.{packing_fault_under, data_fault}
 use Rattle.grib_packing.specs.declared.written.Packed.{Packed}
 use Rattle.grib2_message.specs.View.{is_numbered, last_number, octets_in_force, points_in_force, earlier_mask, mask_in_force, section_count}
-use Rattle.grib2_message.specs.Acceptance.{section_fault_under, contents_faults, no_rows}
+use Rattle.grib2_message.specs.Acceptance.{section_fault_under, contents_faults, no_rules}
 use Rattle.grib2_message.specs.Fields.{sections_up_to_field}
 use Rattle.grib2_message.specs.Grammar.{IsSection, AreSections}
 use Rattle.grib2_message.specs.Assembled.{in_place_with, replaced_with, IsGridUnder, PartsPassUnder}
@@ -54,7 +54,7 @@ grid_in_force grid before others h some =
     octets_along (Fits grid) (fits_number grid) 3 (λ xs ys. 1 ≤ length xs → ys ≡ grid xs) (λ none. absurd (omega (arith, none)))
     (λ s t fits e some. fits.grid_is e) before others h some
 
--- where no row refused a section, there is one after Section 3
+-- where no rule refused a section, there is one after Section 3
 pub some_grid : (profile : Profile) (before : List Placed) → AreSound profile before → 3 ≤ last_number before → 1 ≤ length (octets_in_force 3 before)
 some_grid profile before sound low =
     let long : 14 ≤ length (octets_in_force 3 before) = grid_header_length profile (octets_in_force 3 before) (sound.grid low) in
@@ -139,52 +139,52 @@ kind_of n high = elim (cases_eq n 5) [
   ]
 ]
 
--- rows that do not refuse do not refuse elsewhere
+-- rules that do not refuse do not refuse elsewhere
 none_anywhere : (start at : ℕ) (o : Option Fault) → located start o ≡ None → located at o ≡ None
 none_anywhere start at o none = ap (located at) (none_located start o none)
 
--- ---- the rows of Sections 1, 2 and 4, which rest on no other section
+-- ---- the rules of Sections 1, 2 and 4, which rest on no other section
 
 module _ (profile : Profile) (grid : List ℕ → List ℕ) (before others : List Placed) (q p : ℕ) (s : List ℕ) (along : Along (Fits grid) before others) (none : section_fault_under profile before (placed_at q s) ≡ None) where
-  as_number : (n : ℕ) → section_number s ≡ n → get_or (contents_faults profile) n no_rows before (placed_at q s) ≡ None
+  as_number : (n : ℕ) → section_number s ≡ n → get_or (contents_faults profile) n no_rules before (placed_at q s) ≡ None
   as_number n e = sym (fault_of profile before (placed_at q s) n e) ∙ none
 
-  rows_1 : section_number s ≡ 1 → section_fault_under profile others (placed_at p s) ≡ None
-  rows_1 e = fault_of profile others (placed_at p s) 1 e ∙ none_anywhere q p (first_fault (identification_rows s)) (as_number 1 e)
+  rules_1 : section_number s ≡ 1 → section_fault_under profile others (placed_at p s) ≡ None
+  rules_1 e = fault_of profile others (placed_at p s) 1 e ∙ none_anywhere q p (first_fault (identification_rules s)) (as_number 1 e)
 
-  rows_2 : section_number s ≡ 2 → section_fault_under profile others (placed_at p s) ≡ None
-  rows_2 e = fault_of profile others (placed_at p s) 2 e
+  rules_2 : section_number s ≡ 2 → section_fault_under profile others (placed_at p s) ≡ None
+  rules_2 e = fault_of profile others (placed_at p s) 2 e
 
-  -- a Section 3 passes its rows
-  pub grid_passes : section_number s ≡ 3 → first_fault (grid_rows_under profile s) ≡ None
-  grid_passes e = none_located q (first_fault (grid_rows_under profile s)) (as_number 3 e)
+  -- a Section 3 passes its rules
+  pub grid_passes : section_number s ≡ 3 → first_fault (grid_rules_under profile s) ≡ None
+  grid_passes e = none_located q (first_fault (grid_rules_under profile s)) (as_number 3 e)
 
-  rows_4 : section_number s ≡ 4 → section_fault_under profile others (placed_at p s) ≡ None
-  rows_4 e =
+  rules_4 : section_number s ≡ 4 → section_fault_under profile others (placed_at p s) ≡ None
+  rules_4 e =
       fault_of profile others (placed_at p s) 4 e
-      ∙ ap (λ (n : ℕ). located p (first_fault (product_rows_under profile s (n + 1)))) (count_along (Fits grid) (fits_number grid) 4 before others along)
-      ∙ none_anywhere q p (first_fault (product_rows_under profile s (section_count 4 before + 1))) (as_number 4 e)
+      ∙ ap (λ (n : ℕ). located p (first_fault (product_rules_under profile s (n + 1)))) (count_along (Fits grid) (fits_number grid) 4 before others along)
+      ∙ none_anywhere q p (first_fault (product_rules_under profile s (section_count 4 before + 1))) (as_number 4 e)
 
   -- they do not refuse s elsewhere, after sections that go along those before it
-  pub rows_elsewhere : 1 ≤ section_number s → section_number s ≤ 4 → section_number s ≢ 3 → section_fault_under profile others (placed_at p s) ≡ None
-  rows_elsewhere low high not_3 = elim (cases_eq (section_number s) 1) [
-    | inl e ↦ rows_1 e
+  pub rules_elsewhere : 1 ≤ section_number s → section_number s ≤ 4 → section_number s ≢ 3 → section_fault_under profile others (placed_at p s) ≡ None
+  rules_elsewhere low high not_3 = elim (cases_eq (section_number s) 1) [
+    | inl e ↦ rules_1 e
     | inr not_1 ↦ elim (cases_eq (section_number s) 2) [
-      | inl e ↦ rows_2 e
-      | inr not_2 ↦ rows_4 (omega arith)
+      | inl e ↦ rules_2 e
+      | inr not_2 ↦ rules_4 (omega arith)
     ]
   ]
 
 -- ---- one section
 
--- a section that states itself may stand in place of one with its number, where no row refuses it
+-- a section that states itself may stand in place of one with its number, where no rule refuses it
 may_replace : (profile : Profile) (others : List Placed) (p : ℕ) (s t : List ℕ) (n : ℕ) → section_number s ≡ n → StatesItself n t → section_fault_under profile others (placed_at p t) ≡ None
     → MayReplace profile others p s t
 may_replace profile others p s t n e itself none = record {
   length_stands = itself.length_stands;
   least = itself.least;
   numbered = itself.number_stands ∙ sym e;
-  rows_hold = none;
+  rules_hold = none;
 }
 
 -- what is so of a section and what stands in its place, after the sections before
@@ -216,7 +216,7 @@ module _ (profile : Profile) (grid : List ℕ → List ℕ) (part : Packed) (bef
           length_stands = is.length_stands;
           least = is.least;
           numbered = refl;
-          rows_hold = rows_elsewhere profile grid before others q p s along is.rows_hold range.0 low not_3;
+          rules_hold = rules_elsewhere profile grid before others q p s along is.rules_hold range.0 low not_3;
         };
         fits = record { numbered = refl; kept = λ e other. refl; grid_is = λ three. absurd (not_3 three) };
         within = λ e. record {
@@ -232,11 +232,11 @@ module _ (profile : Profile) (grid : List ℕ → List ℕ) (part : Packed) (bef
   goes_3 e =
       let is_grid : IsGridUnder profile s = record {
         itself = record { length_stands = is.length_stands; least = is.least; number_stands = e };
-        rows = grid_passes profile grid before others q p s along is.rows_hold e;
+        rules = grid_passes profile grid before others q p s along is.rules_hold e;
       } in
       let new = becomes e is_grid in
       let number : section_number (grid s) ≡ 3 = new.itself.number_stands in
-      let none : located p (first_fault (grid_rows_under profile (grid s))) ≡ None = ap (located p) new.rows in
+      let none : located p (first_fault (grid_rules_under profile (grid s))) ≡ None = ap (located p) new.rules in
       record {
         may = may_replace profile others p s (grid s) 3 e new.itself (fault_of profile others (placed_at p (grid s)) 3 number ∙ none);
         fits = record { numbered = number ∙ sym e; kept = λ low other. absurd (other e); grid_is = λ three. refl };
@@ -278,8 +278,8 @@ module _ (profile : Profile) (grid : List ℕ → List ℕ) (part : Packed) (bef
       let number : section_number part.section6 ≡ 6 = ok.itself_6.number_stands in
       let section5 : octets_in_force 5 others ≡ part.section5 = in_part.packing (omega (arith, last)) (omega (arith, last)) in
       let points = points_new profile grid before others along sound (omega arith) in
-      let none : located p (first_fault (bitmap_rows part.section6 (points_in_force others) (value_count (octets_in_force 5 others)) (earlier_mask others))) ≡ None =
-      ap₂ (λ (n : ℕ) (xs : List ℕ). located p (first_fault (bitmap_rows part.section6 n (value_count xs) (earlier_mask others)))) points section5
+      let none : located p (first_fault (bitmap_rules part.section6 (points_in_force others) (value_count (octets_in_force 5 others)) (earlier_mask others))) ≡ None =
+      ap₂ (λ (n : ℕ) (xs : List ℕ). located p (first_fault (bitmap_rules part.section6 n (value_count xs) (earlier_mask others)))) points section5
       ∙ ap (located p) (ok.bitmap (earlier_mask others)) in
       let other_than : (k : ℕ) → 6 ≢ k → section_number t.octets ≢ k = λ k ne same. ne (sym number ∙ same) in
       record {
@@ -501,7 +501,7 @@ rebuilt profile grid (s ∷ sections) (part ∷ parts) before others q p follow 
     let t = in_place_with grid (part ∷ parts) s in
     let rest = placed_from (q + length s) sections in
     let g = goes profile grid part before others q p s follow.0 along in_parts sound each.0 (pass_here profile grid part parts before q s sections pass follow) parts in
-    let after = sound_after profile (placed_at q s) before sound (follows_tells (last_number before) (section_number s) follow.0.follows) follow.0.rows_hold in
+    let after = sound_after profile (placed_at q s) before sound (follows_tells (last_number before) (section_number s) follow.0.follows) follow.0.rules_hold in
     elim (cases_eq (section_number s) 7) [
       | inl seven ↦
           let ends : section_number t ≡ 7 = g.fits.numbered ∙ seven in

@@ -122,7 +122,7 @@ module _ (profile : Profile) (m : List ℕ) (fields : List Places) (h : Keeps pr
   pub field_kept : IsField m (field_sections m i) places
   field_kept = field_at.0
 
-  -- no row refuses the sections in force for it
+  -- no rule refuses the sections in force for it
   pub field_sound : AreSound profile (field_sections m i)
   field_sound = subst (λ (p : Profile). AreSound p (field_sections m i)) field_at.1 field_at.0.stand.force.sound
 

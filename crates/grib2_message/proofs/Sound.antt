@@ -1,33 +1,33 @@
--- What is known of sections that no row refused, after one more.
+-- What is known of sections that no rule refused, after one more.
 use Rattle.std.proofs.Common.{◌≡◌, ◌≢◌, ℕ, ◌+◌, ◌≤◌, Bool, cond, ◌&&◌, Option, Some, None, is_some, IsSome, List, [], ◌∷◌, get_or, ◌==◌, inl, inr, refl, sym, ap, ap₂, ◌∙◌, arith, zero-add, eq-eqb, ne_eqb}
 use Rattle.std.proofs.lemmas.Bool.{cases_eq}
 use Rattle.std.proofs.lemmas.List.Sums.{sum_by-cons}
 use Rattle.grib_base.specs.declared.profile.Profile.{Profile}
 use Rattle.grib_base.specs.declared.fault.Fault.{Fault}
-use Rattle.grib_base.specs.Rows.{first_fault, located, choose}
+use Rattle.grib_base.specs.Rules.{first_fault, located, choose}
 use Rattle.grib2_sections.specs.Frame.{Placed, section_number}
-use Rattle.grib2_sections.specs.Identification.{identification_rows}
+use Rattle.grib2_sections.specs.Identification.{identification_rules}
 use Rattle.grib2_grids.specs.Grid.{grid_points}
-use Rattle.grib2_grids.specs.Opaque.{grid_rows_under}
-use Rattle.grib2_products.specs.Opaque.{product_rows_under}
+use Rattle.grib2_grids.specs.Opaque.{grid_rules_under}
+use Rattle.grib2_products.specs.Opaque.{product_rules_under}
 use Rattle.grib2_products.proofs.Under.{product_first, product_few}
-use Rattle.grib_bitmap.specs.Mask.{bitmap_indicator, bitmap_rows, mask_of, own_mask}
+use Rattle.grib_bitmap.specs.Mask.{bitmap_indicator, bitmap_rules, mask_of, own_mask}
 use Rattle.grib_packing.specs.Packing.{value_count}
 use Rattle.grib_packing.specs.Entries.{packing_fault_under, data_fault}
 use Rattle.grib2_message.specs.View.{is_numbered, last_number, section_in_force, octets_in_force, points_in_force, earlier_bitmap, bitmap_mask, earlier_mask, mask_in_force, section_count}
-use Rattle.grib2_message.specs.Acceptance.{no_rows, section_fault_under, contents_faults}
+use Rattle.grib2_message.specs.Acceptance.{no_rules, section_fault_under, contents_faults}
 use Rattle.grib2_message.specs.Kept.{AreSound, begun}
 use Rattle.grib2_message.proofs.Latest.{in_force_same, in_force_other, octets_same, octets_other}
 use Rattle.grib2_message.proofs.Order.{Follows, next, skips, again, in_range, one_below, begun_none}
-use Rattle.grib2_message.proofs.Bitmaps.{mask_alone, rows_alone}
+use Rattle.grib2_message.proofs.Bitmaps.{mask_alone, rules_alone}
 
 pub none_located : (start : ℕ) (o : Option Fault) → located start o ≡ None → o ≡ None
 none_located start None none = refl
 none_located start (Some f) none = absurd (cc)
 
 -- the refusal of a section by its number
-pub fault_of : (profile : Profile) (before : List Placed) (s : Placed) (n : ℕ) → section_number s.octets ≡ n → section_fault_under profile before s ≡ get_or (contents_faults profile) n no_rows before s
-fault_of profile before s n e = ap (λ (k : ℕ). get_or (contents_faults profile) k no_rows before s) e
+pub fault_of : (profile : Profile) (before : List Placed) (s : Placed) (n : ℕ) → section_number s.octets ≡ n → section_fault_under profile before s ≡ get_or (contents_faults profile) n no_rules before s
+fault_of profile before s n e = ap (λ (k : ℕ). get_or (contents_faults profile) k no_rules before s) e
 
 module _ (s : Placed) (before : List Placed) where
   -- the earlier bitmap after one more section
@@ -89,7 +89,7 @@ module _ (s : Placed) (before : List Placed) where
 
 module _ (profile : Profile) (s : Placed) (before : List Placed) (h : AreSound profile before) (f : Follows (last_number before) (section_number s.octets)) (accepted : section_fault_under profile before s ≡ None) where
   -- the refusal by its number, which is none
-  accepted_as : (n : ℕ) → section_number s.octets ≡ n → get_or (contents_faults profile) n no_rows before s ≡ None
+  accepted_as : (n : ℕ) → section_number s.octets ≡ n → get_or (contents_faults profile) n no_rules before s ≡ None
   accepted_as n e = sym (fault_of profile before s n e) ∙ accepted
 
   below : (k : ℕ) → 1 ≤ k → k ≤ section_number s.octets → k ≢ 2 → section_number s.octets ≢ k → k ≤ last_number before
@@ -106,34 +106,34 @@ module _ (profile : Profile) (s : Placed) (before : List Placed) (h : AreSound p
     | inr other ↦ ap is_some (in_force_other s before k other) ∙ h.present k low (below k low high two other) two
   ]
 
-  grid_after : 3 ≤ section_number s.octets → first_fault (grid_rows_under profile (octets_in_force 3 (s ∷ before))) ≡ None
+  grid_after : 3 ≤ section_number s.octets → first_fault (grid_rules_under profile (octets_in_force 3 (s ∷ before))) ≡ None
   grid_after high = elim (cases_eq (section_number s.octets) 3) [
     | inl same ↦
-        ap (λ (x : List ℕ). first_fault (grid_rows_under profile x)) (octets_same s before 3 same)
-        ∙ none_located s.start (first_fault (grid_rows_under profile s.octets)) (accepted_as 3 same)
+        ap (λ (x : List ℕ). first_fault (grid_rules_under profile x)) (octets_same s before 3 same)
+        ∙ none_located s.start (first_fault (grid_rules_under profile s.octets)) (accepted_as 3 same)
     | inr other ↦
-        ap (λ (x : List ℕ). first_fault (grid_rows_under profile x)) (octets_other s before 3 other)
+        ap (λ (x : List ℕ). first_fault (grid_rules_under profile x)) (octets_other s before 3 other)
         ∙ h.grid (below 3 (omega arith) high (λ same. absurd (omega arith)) other)
   ]
 
-  identification_after : 1 ≤ section_number s.octets → first_fault (identification_rows (octets_in_force 1 (s ∷ before))) ≡ None
+  identification_after : 1 ≤ section_number s.octets → first_fault (identification_rules (octets_in_force 1 (s ∷ before))) ≡ None
   identification_after high = elim (cases_eq (section_number s.octets) 1) [
     | inl same ↦
-        ap (λ (x : List ℕ). first_fault (identification_rows x)) (octets_same s before 1 same)
-        ∙ none_located s.start (first_fault (identification_rows s.octets)) (accepted_as 1 same)
+        ap (λ (x : List ℕ). first_fault (identification_rules x)) (octets_same s before 1 same)
+        ∙ none_located s.start (first_fault (identification_rules s.octets)) (accepted_as 1 same)
     | inr other ↦
-        ap (λ (x : List ℕ). first_fault (identification_rows x)) (octets_other s before 1 other)
+        ap (λ (x : List ℕ). first_fault (identification_rules x)) (octets_other s before 1 other)
         ∙ h.identification (below 1 (omega arith) high (λ same. absurd (omega arith)) other)
   ]
 
-  product_after : 4 ≤ section_number s.octets → first_fault (product_rows_under profile (octets_in_force 4 (s ∷ before)) 1) ≡ None
+  product_after : 4 ≤ section_number s.octets → first_fault (product_rules_under profile (octets_in_force 4 (s ∷ before)) 1) ≡ None
   product_after high = elim (cases_eq (section_number s.octets) 4) [
     | inl same ↦
-        ap (λ (x : List ℕ). first_fault (product_rows_under profile x 1)) (octets_same s before 4 same)
+        ap (λ (x : List ℕ). first_fault (product_rules_under profile x 1)) (octets_same s before 4 same)
         ∙ product_first profile s.octets (section_count 4 before + 1)
-        (none_located s.start (first_fault (product_rows_under profile s.octets (section_count 4 before + 1))) (accepted_as 4 same))
+        (none_located s.start (first_fault (product_rules_under profile s.octets (section_count 4 before + 1))) (accepted_as 4 same))
     | inr other ↦
-        ap (λ (x : List ℕ). first_fault (product_rows_under profile x 1)) (octets_other s before 4 other)
+        ap (λ (x : List ℕ). first_fault (product_rules_under profile x 1)) (octets_other s before 4 other)
         ∙ h.product (below 4 (omega arith) high (λ same. absurd (omega arith)) other)
   ]
 
@@ -149,37 +149,37 @@ module _ (profile : Profile) (s : Placed) (before : List Placed) (h : AreSound p
             ∙ h.packing (below 5 (omega arith) high (λ same. absurd (omega arith)) other)
       ]
 
-  -- the rows of Section 6 and its mask, by the earlier bitmap after it
-  rows_of : Option (List Bool) → List ℕ → ℕ → ℕ → Option Fault
-  rows_of earlier x points values = first_fault (bitmap_rows x points values earlier)
+  -- the rules of Section 6 and its mask, by the earlier bitmap after it
+  rules_of : Option (List Bool) → List ℕ → ℕ → ℕ → Option Fault
+  rules_of earlier x points values = first_fault (bitmap_rules x points values earlier)
 
-  same_rows : (x y : List ℕ) (p q v w : ℕ) (earlier later : Option (List Bool)) → x ≡ y → p ≡ q → v ≡ w → earlier ≡ later
-      → first_fault (bitmap_rows x p v earlier) ≡ first_fault (bitmap_rows y q w later)
-  same_rows x y p q v w earlier later ex ep ev ee = λ i. first_fault (bitmap_rows (ex i) (ep i) (ev i) (ee i))
+  same_rules : (x y : List ℕ) (p q v w : ℕ) (earlier later : Option (List Bool)) → x ≡ y → p ≡ q → v ≡ w → earlier ≡ later
+      → first_fault (bitmap_rules x p v earlier) ≡ first_fault (bitmap_rules y q w later)
+  same_rules x y p q v w earlier later ex ep ev ee = λ i. first_fault (bitmap_rules (ex i) (ep i) (ev i) (ee i))
 
   same_mask : (x y : List ℕ) (p q : ℕ) (earlier later : Option (List Bool)) → x ≡ y → p ≡ q → earlier ≡ later → mask_of x p earlier ≡ mask_of y q later
   same_mask x y p q earlier later ex ep ee = λ i. mask_of (ex i) (ep i) (ee i)
 
   bitmap_after : 6 ≤ section_number s.octets
-      → first_fault (bitmap_rows (octets_in_force 6 (s ∷ before)) (points_in_force (s ∷ before)) (value_count (octets_in_force 5 (s ∷ before))) (earlier_mask (s ∷ before))) ≡ None
+      → first_fault (bitmap_rules (octets_in_force 6 (s ∷ before)) (points_in_force (s ∷ before)) (value_count (octets_in_force 5 (s ∷ before))) (earlier_mask (s ∷ before))) ≡ None
   bitmap_after high =
       let points = points_kept s before (λ same. absurd (omega arith)) in
       let values = ap value_count (octets_other s before 5 (λ same. absurd (omega arith))) in
       elim (cases_eq (section_number s.octets) 6) [
         | inl same ↦
-            let none : first_fault (bitmap_rows s.octets (points_in_force before) (value_count (octets_in_force 5 before)) (earlier_mask before)) ≡ None =
+            let none : first_fault (bitmap_rules s.octets (points_in_force before) (value_count (octets_in_force 5 before)) (earlier_mask before)) ≡ None =
             none_located s.start _ (accepted_as 6 same) in
             elim (cases_eq (bitmap_indicator s.octets) 0) [
               | inl own ↦
                   let not_254 : bitmap_indicator s.octets ≢ 254 = λ e. absurd (omega arith) in
-                  same_rows _ _ _ _ _ _ (earlier_mask (s ∷ before)) (earlier_mask (s ∷ before)) (octets_same s before 6 same) points values refl
-                  ∙ rows_alone s.octets (points_in_force before) (value_count (octets_in_force 5 before)) not_254 (earlier_mask (s ∷ before)) (earlier_mask before)
+                  same_rules _ _ _ _ _ _ (earlier_mask (s ∷ before)) (earlier_mask (s ∷ before)) (octets_same s before 6 same) points values refl
+                  ∙ rules_alone s.octets (points_in_force before) (value_count (octets_in_force 5 before)) not_254 (earlier_mask (s ∷ before)) (earlier_mask before)
                   ∙ none
               | inr other ↦
-                  same_rows _ _ _ _ _ _ _ _ (octets_same s before 6 same) points values (earlier_not_own s before same other) ∙ none
+                  same_rules _ _ _ _ _ _ _ _ (octets_same s before 6 same) points values (earlier_not_own s before same other) ∙ none
             ]
         | inr other ↦
-            same_rows _ _ _ _ _ _ _ _ (octets_other s before 6 other) points values (earlier_kept s before other)
+            same_rules _ _ _ _ _ _ _ _ (octets_other s before 6 other) points values (earlier_kept s before other)
             ∙ h.bitmap (below 6 (omega arith) high (λ same. absurd (omega arith)) other)
       ]
 

@@ -1,15 +1,15 @@
 -- What is said of octets stays said whatever follows them, unless they end too early.
-use Rattle.std.proofs.Common.{◌≡◌, ◌≢◌, ℕ, zero, suc, ◌+◌, ◌-◌, ◌≤◌, Bool, true, false, not, cond, ◌&&◌, ◌||◌, ◌⊎◌, Option, Some, None, List, [], ◌∷◌, ◌++◌, length, take, drop, nat_lt, ◌==◌, inl, inr, refl, sym, ap, ◌∙◌, arith, length-append, length-take-le, take-take, take_at, ltb-false, le-ltb, ne_eqb}
+use Rattle.std.proofs.Common.{◌≡◌, ◌≢◌, ℕ, zero, suc, ◌+◌, ◌-◌, ◌≤◌, Bool, true, false, not, cond, ◌&&◌, ◌||◌, ◌⊎◌, Option, Some, None, List, [], ◌∷◌, ◌++◌, length, take, nat_lt, ◌==◌, inl, inr, refl, sym, ap, ◌∙◌, arith, length-append, length-take-le, take_at, ltb-false, le-ltb, ne_eqb}
 use Rattle.std.proofs.lemmas.Bool.{and_right, not-false, not_from_false}
-use Rattle.std.proofs.lemmas.List.{drop-take}
 use Rattle.grib_bits.specs.Octets.{num_on, octets, octet_list}
+use Rattle.grib_bits.proofs.Counted.{list_of_front}
 use Rattle.grib_base.specs.declared.profile.Profile.{Profile}
 use Rattle.grib_base.specs.declared.fault.Fault.{Fault}
 use Rattle.grib_base.specs.declared.fault.Reason.TheVariants.{Truncated, Edition, TotalLength, SectionLength, SectionOrder, LengthDisagrees, EndMark}
-use Rattle.grib_base.specs.Rows.{row, refusal, first_fault, choose}
+use Rattle.grib_base.specs.Rules.{rule, refusal, first_fault, choose}
 use Rattle.grib2_sections.specs.Verdict.{Verdict, Accepted, Refused}
-use Rattle.grib2_sections.specs.Head.{edition, total_length, total_length_1, head_rows}
-use Rattle.grib2_sections.specs.Frame.{Placed, placed_at, section_at, ends_at, may_follow, may_end, mark_rows, frame_rows, Step, End, Fails, Next, unless_fails, step}
+use Rattle.grib2_sections.specs.Head.{edition, total_length, total_length_1, head_rules}
+use Rattle.grib2_sections.specs.Frame.{Placed, placed_at, section_at, ends_at, may_follow, may_end, mark_rules, frame_rules, Step, End, Fails, Next, unless_fails, step}
 use Rattle.grib2_message.specs.View.{last_number}
 use Rattle.grib2_message.specs.Acceptance.{section_fault_under, unless_refused, verdict_at, verdict_from, verdict_under}
 use Rattle.grib2_message.proofs.Passed.{passes_from_none}
@@ -22,14 +22,6 @@ use Rattle.grib2_message.proofs.Whole.{head_passes}
 pub record IsFront (u w : List ℕ) : Type 0 where
   pub longer : length u ≤ length w
   pub lists : (first last : ℕ) → 1 ≤ first → first ≤ last → last ≤ length u → octet_list w first last ≡ octet_list u first last
-
--- some octets of a front
-list_of_front : (m : List ℕ) (n first last : ℕ) → 1 ≤ first → first ≤ last → last ≤ n → octet_list (take n m) first last ≡ octet_list m first last
-list_of_front m n first last low order within =
-    let split : n ≡ (first - 1) + (n - (first - 1)) = omega arith in
-    let fits : last + 1 - first ≤ n - (first - 1) = omega arith in
-    ap (λ k. take (last + 1 - first) (drop (first - 1) (take k m))) split
-    ∙ (ap (take (last + 1 - first)) (drop-take (first - 1) (n - (first - 1)) m) ∙ take-take (last + 1 - first) (n - (first - 1)) (drop (first - 1) m) fits)
 
 pub front_of_more : (u more : List ℕ) → IsFront u (u ++ more)
 front_of_more u more = record {
@@ -67,26 +59,26 @@ IsTruncated (Some fault) = fault.reason ≡ Truncated
 abbrev pub Kept : Option Fault → Option Fault → Type 0
 Kept fault later = IsTruncated fault ⊎ (later ≡ fault)
 
--- a row that asks for more
-cut_row : (a b : Bool) (f g : Fault) (x y : Option Fault) → f.reason ≡ Truncated → (a ≡ false → (b ≡ false) × Kept x y)
+-- a rule that asks for more
+cut_rule : (a b : Bool) (f g : Fault) (x y : Option Fault) → f.reason ≡ Truncated → (a ≡ false → (b ≡ false) × Kept x y)
     → Kept (cond a (Some f) x) (cond b (Some g) y)
-cut_row true b f g x y cut later = inl cut
-cut_row false b f g x y cut later =
+cut_rule true b f g x y cut later = inl cut
+cut_rule false b f g x y cut later =
     let both = later refl in
     let off : b ≡ false = both.0 in
     rw off both.1
 
--- any other row
-kept_row : (a b : Bool) (f g : Fault) (x y : Option Fault) → b ≡ a → g ≡ f → (a ≡ false → Kept x y)
+-- any other rule
+kept_rule : (a b : Bool) (f g : Fault) (x y : Option Fault) → b ≡ a → g ≡ f → (a ≡ false → Kept x y)
     → Kept (cond a (Some f) x) (cond b (Some g) y)
-kept_row true b f g x y same fault later = inr (rw same (ap Some fault))
-kept_row false b f g x y same fault later = rw same (later refl)
+kept_rule true b f g x y same fault later = inr (rw same (ap Some fault))
+kept_rule false b f g x y same fault later = rw same (later refl)
 
--- the rows of Section 0, where the edition is not 1
-abbrev total_rows : ℕ → ℕ → ℕ → Option Fault
-total_rows e total total_1 = first_fault (
-    row (e == 2 && (nat_lt total 20 || nat_lt 268435456 total)) 9 TotalLength total
-    ∷ row (e == 1 && nat_lt total_1 12) 5 TotalLength total_1
+-- the rules of Section 0, where the edition is not 1
+abbrev total_rules : ℕ → ℕ → ℕ → Option Fault
+total_rules e total total_1 = first_fault (
+    rule (e == 2 && (nat_lt total 20 || nat_lt 268435456 total)) 9 TotalLength total
+    ∷ rule (e == 1 && nat_lt total_1 12) 5 TotalLength total_1
     ∷ [])
 
 is_second : (e : ℕ) → e ≢ 1 → (not (e == 1) && not (e == 2)) ≡ false → (e == 2) ≡ true
@@ -94,57 +86,57 @@ is_second e other off =
     let first : (e == 1) ≡ false = ne_eqb e 1 other in
     not-false (e == 2) (second_fails (not (e == 1)) (not (e == 2)) off (not_from_false (e == 1) first))
 
-pub head_kept : (u w : List ℕ) → IsFront u w → edition u ≢ 1 → Kept (first_fault (head_rows u)) (first_fault (head_rows w))
+pub head_kept : (u w : List ℕ) → IsFront u w → edition u ≢ 1 → Kept (first_fault (head_rules u)) (first_fault (head_rules w))
 head_kept u w h other =
-    cut_row (nat_lt (length u) 8) (nat_lt (length w) 8) _ _ _ _ refl (λ pass.
+    cut_rule (nat_lt (length u) 8) (nat_lt (length w) 8) _ _ _ _ refl (λ pass.
     let eight : 8 ≤ length u = ltb-false (length u) 8 pass in
     let e : edition w ≡ edition u = same_octets u w 8 8 h (omega arith) (omega arith) eight in (
       le-ltb (length w) 8 (omega (arith, h.longer)),
-      kept_row (not (edition u == 1) && not (edition u == 2)) (not (edition w == 1) && not (edition w == 2)) _ _ _ _
+      kept_rule (not (edition u == 1) && not (edition u == 2)) (not (edition w == 1) && not (edition w == 2)) _ _ _ _
           (ap (λ n. not (n == 1) && not (n == 2)) e) (ap (λ n. refusal 8 Edition n) e) (λ pass_2.
           let second : (edition u == 2) ≡ true = is_second (edition u) other pass_2 in
-          cut_row (edition u == 2 && nat_lt (length u) 16) (edition w == 2 && nat_lt (length w) 16) _ _ _ _ refl (λ pass_3.
+          cut_rule (edition u == 2 && nat_lt (length u) 16) (edition w == 2 && nat_lt (length w) 16) _ _ _ _ refl (λ pass_3.
           let sixteen : 16 ≤ length u = ltb-false (length u) 16 (second_fails (edition u == 2) (nat_lt (length u) 16) pass_3 second) in
           let t : total_length w ≡ total_length u = same_octets u w 9 16 h (omega arith) (omega arith) sixteen in
           let t_1 : total_length_1 w ≡ total_length_1 u = same_octets u w 5 7 h (omega arith) (omega arith) (omega arith) in (
             and_right (edition w == 2) (nat_lt (length w) 16) (le-ltb (length w) 16 (omega (arith, h.longer))),
-            inr (ap (λ n. total_rows n (total_length w) (total_length_1 w)) e
-                ∙ (ap (λ n. total_rows (edition u) n (total_length_1 w)) t ∙ ap (total_rows (edition u) (total_length u)) t_1)),
+            inr (ap (λ n. total_rules n (total_length w) (total_length_1 w)) e
+                ∙ (ap (λ n. total_rules (edition u) n (total_length_1 w)) t ∙ ap (total_rules (edition u) (total_length u)) t_1)),
           ))),
     ))
 
--- the rows of a mark
+-- the rules of a mark
 abbrev after_mark : ℕ → ℕ → ℕ → ℕ → Option Fault
 after_mark total last q mark = first_fault (
-    row ((mark == 926365495) && not (may_end last)) q SectionOrder 8
-    ∷ row ((mark == 926365495) && nat_lt (q + 3) total) (q + 4) LengthDisagrees (total - (q + 3))
-    ∷ row (not (mark == 926365495) && (q + 3 == total)) q EndMark mark
+    rule ((mark == 926365495) && not (may_end last)) q SectionOrder 8
+    ∷ rule ((mark == 926365495) && nat_lt (q + 3) total) (q + 4) LengthDisagrees (total - (q + 3))
+    ∷ rule (not (mark == 926365495) && (q + 3 == total)) q EndMark mark
     ∷ [])
 
 mark_kept : (u w : List ℕ) (total last q : ℕ) → IsFront u w → 1 ≤ q
-    → Kept (first_fault (mark_rows u total last q)) (first_fault (mark_rows w total last q))
+    → Kept (first_fault (mark_rules u total last q)) (first_fault (mark_rules w total last q))
 mark_kept u w total last q h low =
-    cut_row (nat_lt (length u) (q + 3)) (nat_lt (length w) (q + 3)) _ _ _ _ refl (λ pass. (
+    cut_rule (nat_lt (length u) (q + 3)) (nat_lt (length w) (q + 3)) _ _ _ _ refl (λ pass. (
       le-ltb (length w) (q + 3) (omega (arith, h.longer, ltb-false (length u) (q + 3) pass)),
       inr (ap (after_mark total last q) (same_octets u w q (q + 3) h low (omega arith) (ltb-false (length u) (q + 3) pass))),
     ))
 
 -- and of a frame
 frame_kept : (u w : List ℕ) (total last q : ℕ) → IsFront u w → 1 ≤ q
-    → Kept (first_fault (frame_rows u total last q)) (first_fault (frame_rows w total last q))
+    → Kept (first_fault (frame_rules u total last q)) (first_fault (frame_rules w total last q))
 frame_kept u w total last q h low =
     let l : List ℕ → ℕ = λ m. octets m q (q + 3) in
     let number : List ℕ → ℕ = λ m. octets m (q + 4) (q + 4) in
-    cut_row (nat_lt (length u) (q + 4)) (nat_lt (length w) (q + 4)) _ _ _ _ refl (λ pass.
+    cut_rule (nat_lt (length u) (q + 4)) (nat_lt (length w) (q + 4)) _ _ _ _ refl (λ pass.
     let there : q + 4 ≤ length u = ltb-false (length u) (q + 4) pass in
     let same_l : octets w q (q + 3) ≡ octets u q (q + 3) = same_octets u w q (q + 3) h low (omega arith) (omega arith) in
     let same_number : octets w (q + 4) (q + 4) ≡ octets u (q + 4) (q + 4) = same_octets u w (q + 4) (q + 4) h (omega arith) (omega arith) there in (
       le-ltb (length w) (q + 4) (omega (arith, h.longer)),
-      kept_row (nat_lt (octets u q (q + 3)) 5 || nat_lt total (q - 1 + octets u q (q + 3) + 4)) (nat_lt (octets w q (q + 3)) 5 || nat_lt total (q - 1 + octets w q (q + 3) + 4)) _ _ _ _
+      kept_rule (nat_lt (octets u q (q + 3)) 5 || nat_lt total (q - 1 + octets u q (q + 3) + 4)) (nat_lt (octets w q (q + 3)) 5 || nat_lt total (q - 1 + octets w q (q + 3) + 4)) _ _ _ _
           (ap (λ n. nat_lt n 5 || nat_lt total (q - 1 + n + 4)) same_l) (ap (λ n. refusal q SectionLength n) same_l) (λ pass_6.
-          kept_row (not (may_follow last (octets u (q + 4) (q + 4)))) (not (may_follow last (octets w (q + 4) (q + 4)))) _ _ _ _
+          kept_rule (not (may_follow last (octets u (q + 4) (q + 4)))) (not (may_follow last (octets w (q + 4) (q + 4)))) _ _ _ _
           (ap (λ n. not (may_follow last n)) same_number) (ap (λ n. refusal (q + 4) SectionOrder n) same_number) (λ pass_7.
-          cut_row (nat_lt (length u) (q - 1 + octets u q (q + 3))) (nat_lt (length w) (q - 1 + octets w q (q + 3))) _ _ None None refl (λ pass_8. (
+          cut_rule (nat_lt (length u) (q - 1 + octets u q (q + 3))) (nat_lt (length w) (q - 1 + octets w q (q + 3))) _ _ None None refl (λ pass_8. (
             le-ltb (length w) (q - 1 + octets w q (q + 3)) (omega (arith, h.longer, ltb-false (length u) (q - 1 + octets u q (q + 3)) pass_8)),
             inr refl,
           )))),
@@ -180,15 +172,15 @@ parts_kept None mark' false ends' None frame' s s' (inr e) more same =
 
 pub step_kept : (u w : List ℕ) (total last q : ℕ) → IsFront u w → 1 ≤ q → KeptStep (step u total last q) (step w total last q)
 step_kept u w total last q h low =
-    parts_kept (first_fault (mark_rows u total last q)) (first_fault (mark_rows w total last q)) (ends_at u q) (ends_at w q)
-    (first_fault (frame_rows u total last q)) (first_fault (frame_rows w total last q)) (section_at u q) (section_at w q)
+    parts_kept (first_fault (mark_rules u total last q)) (first_fault (mark_rules w total last q)) (ends_at u q) (ends_at w q)
+    (first_fault (frame_rules u total last q)) (first_fault (frame_rules w total last q)) (section_at u q) (section_at w q)
     (mark_kept u w total last q h low)
     (λ marked.
-    let there = (mark_passes u total last q (passes_from_none (mark_rows u total last q) marked)).there in
+    let there = (mark_passes u total last q (passes_from_none (mark_rules u total last q) marked)).there in
     (ap (λ n. n == 926365495) (same_octets u w q (q + 3) h low (omega arith) there), frame_kept u w total last q h low))
     (λ marked framed.
-    let there = (mark_passes u total last q (passes_from_none (mark_rows u total last q) marked)).there in
-    let f = frame_passes u total last q (passes_from_none (frame_rows u total last q) framed) in
+    let there = (mark_passes u total last q (passes_from_none (mark_rules u total last q) marked)).there in
+    let f = frame_passes u total last q (passes_from_none (frame_rules u total last q) framed) in
     same_section u w q h low there (omega (arith, f.least)) f.there)
 
 -- ---- the verdict
@@ -249,11 +241,11 @@ head_then None fault' said later (inr e) h = rw e (h refl)
 -- what is said of a front is said of the whole, unless it asks for more
 pub verdict_kept : (profile : Profile) (u w : List ℕ) → IsFront u w → edition u ≢ 1 → KeptVerdict (verdict_under profile u) (verdict_under profile w)
 verdict_kept profile u w h other =
-    head_then (first_fault (head_rows u)) (first_fault (head_rows w))
+    head_then (first_fault (head_rules u)) (first_fault (head_rules w))
     (λ _. verdict_from profile (length u + 1) u [] 17) (λ _. verdict_from profile (length w + 1) w [] 17)
     (head_kept u w h other)
     (λ passed.
-    let p = head_passes u other (passes_from_none (head_rows u) passed) in
+    let p = head_passes u other (passes_from_none (head_rules u) passed) in
     walk_kept profile (length u + 1) (length w + 1) u w [] 17 h p.there (omega arith) (omega (arith, h.longer)))
 
 stays_refused : (said later : Verdict) (fault : Fault) → KeptVerdict said later → said ≡ Refused fault → fault.reason ≢ Truncated → later ≡ Refused fault

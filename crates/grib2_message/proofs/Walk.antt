@@ -8,7 +8,7 @@ use Rattle.grib_base.specs.declared.profile.Profile.{Profile}
 use Rattle.grib_bits.specs.Octets.{octets, num_on}
 use Rattle.grib2_sections.specs.Verdict.{Accepted}
 use Rattle.grib2_sections.specs.Head.{total_length, end_mark}
-use Rattle.grib2_sections.specs.Frame.{Placed, section_at, section_length, section_number, may_follow, may_end, ends_at, mark_rows, frame_rows}
+use Rattle.grib2_sections.specs.Frame.{Placed, section_at, section_length, section_number, may_follow, may_end, ends_at, mark_rules, frame_rules}
 use Rattle.grib2_message.specs.View.{last_number}
 use Rattle.grib2_message.specs.Acceptance.{section_fault_under, verdict_from}
 use Rattle.grib2_message.specs.Grammar.{IsSection, AreSections}
@@ -25,21 +25,21 @@ second_fails false b e on = cc
 second_holds : (a b : Bool) → (a && not b) ≡ false → a ≡ true → b ≡ true
 second_holds a b e on = not-false b (second_fails a (not b) e on)
 
--- what the rows of a mark say where they pass
+-- what the rules of a mark say where they pass
 pub record MarkPasses (m : List ℕ) (total last q : ℕ) : Type 0 where
   pub there : q + 3 ≤ length m
   pub may_end : ends_at m q ≡ true → IsTrue (may_end last)
   pub at_end : ends_at m q ≡ true → total ≤ q + 3
 
 -- they say so
-pub mark_passes : (m : List ℕ) (total last q : ℕ) → AllPass (mark_rows m total last q) → MarkPasses m total last q
+pub mark_passes : (m : List ℕ) (total last q : ℕ) → AllPass (mark_rules m total last q) → MarkPasses m total last q
 mark_passes m total last q p = record {
   there = ltb-false (length m) (q + 3) p.0;
   may_end = λ ends. second_holds (ends_at m q) (may_end last) p.1.0 ends;
   at_end = λ ends. ltb-false (q + 3) total (second_fails (ends_at m q) (nat_lt (q + 3) total) p.1.1.0 ends);
 }
 
--- and what the rows of a frame say
+-- and what the rules of a frame say
 pub record FramePasses (m : List ℕ) (total last q : ℕ) : Type 0 where
   pub least : 5 ≤ octets m q (q + 3)
   pub room : q - 1 + octets m q (q + 3) + 4 ≤ total
@@ -47,7 +47,7 @@ pub record FramePasses (m : List ℕ) (total last q : ℕ) : Type 0 where
   pub there : q - 1 + octets m q (q + 3) ≤ length m
 
 -- they say so
-pub frame_passes : (m : List ℕ) (total last q : ℕ) → AllPass (frame_rows m total last q) → FramePasses m total last q
+pub frame_passes : (m : List ℕ) (total last q : ℕ) → AllPass (frame_rules m total last q) → FramePasses m total last q
 frame_passes m total last q p =
     let sized = or_parts (nat_lt (octets m q (q + 3)) 5) (nat_lt total (q - 1 + octets m q (q + 3) + 4)) p.1.0 in
     record {
@@ -96,7 +96,7 @@ pub record Stands (profile : Profile) (m : List ℕ) (before : List Placed) (q :
   pub as_long : length (section_at m q) ≡ octets m q (q + 3)
   pub joined : from q m ≡ section_at m q ++ from (q + length (section_at m q)) m
 
--- it is so where no row refuses it
+-- it is so where no rule refuses it
 pub stands : (profile : Profile) (m : List ℕ) (before : List Placed) (q total : ℕ) → 1 ≤ q
     → FramePasses m total (last_number before) q → section_fault_under profile before (here m q) ≡ None → Stands profile m before q
 stands profile m before q total low p contents =
@@ -115,7 +115,7 @@ stands profile m before q total low p contents =
         length_stands = states ∙ sym as_long;
         least = omega (arith, as_long, p.least);
         follows = ap (may_follow (last_number before)) numbered ∙ p.follows;
-        rows_hold = contents;
+        rules_hold = contents;
       };
       as_long = as_long;
       joined = sym (take-append-drop (octets m q (q + 3)) (from q m)) ∙ (ap (λ xs. xs ++ drop (octets m q (q + 3)) (from q m)) (sym is) ∙ ap (λ xs. section_at m q ++ xs) rest);

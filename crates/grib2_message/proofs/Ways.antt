@@ -7,10 +7,10 @@ use Rattle.grib_bits.specs.Bits.{digit}
 use Rattle.grib_bits.specs.Octets.{octets, num_on, StatesItself}
 use Rattle.grib_base.specs.declared.profile.Profile.{Profile}
 use Rattle.grib_base.specs.declared.fault.Fault.{Fault}
-use Rattle.grib_base.specs.Rows.{first_fault, choose}
+use Rattle.grib_base.specs.Rules.{first_fault, choose}
 use Rattle.grib2_sections.specs.Verdict.{Verdict, Accepted, Refused}
-use Rattle.grib2_sections.specs.Head.{edition, total_length, head_rows}
-use Rattle.grib2_sections.specs.Frame.{Placed, placed_at, Position, position_after, section_at, section_number, ends_at, may_follow, mark_rows, frame_rows, Step, End, Fails, Next, unless_fails, step, step_from}
+use Rattle.grib2_sections.specs.Head.{edition, total_length, head_rules}
+use Rattle.grib2_sections.specs.Frame.{Placed, placed_at, Position, position_after, section_at, section_number, ends_at, may_follow, mark_rules, frame_rules, Step, End, Fails, Next, unless_fails, step, step_from}
 use Rattle.grib2_message.specs.View.{is_numbered, last_number, section_count}
 use Rattle.grib2_message.specs.Acceptance.{section_fault_under, unless_refused, verdict_at, verdict_from, verdict_under}
 use Rattle.grib2_message.specs.Fields.{sections_from, field_count, sections_up_to_field, field_sections}
@@ -51,10 +51,10 @@ pub record Given (m : List ℕ) (total last q : ℕ) (s : List ℕ) : Type 0 whe
 
 pub given : (m : List ℕ) (total last q : ℕ) (s : List ℕ) → step m total last q ≡ Next s → Given m total last q s
 given m total last q s e =
-    let told = tells_next (first_fault (mark_rows m total last q)) (ends_at m q) (first_fault (frame_rows m total last q)) (section_at m q) s e in
+    let told = tells_next (first_fault (mark_rules m total last q)) (ends_at m q) (first_fault (frame_rules m total last q)) (section_at m q) s e in
     record {
       goes = told.1;
-      frame = frame_passes m total last q (passes_from_none (frame_rows m total last q) told.2);
+      frame = frame_passes m total last q (passes_from_none (frame_rules m total last q) told.2);
       octets_are = told.3;
     }
 
@@ -97,10 +97,10 @@ pub record OnWay (profile : Profile) (m : List ℕ) (turns : ℕ) (before : List
   pub count : field_count m ≡ section_count 7 before + count_by (is_numbered 7) (sections_from turns m at.place)
 
 -- at first
-pub way_start : (profile : Profile) (m : List ℕ) (total : ℕ) → edition m ≡ 2 → first_fault (head_rows m) ≡ None → total ≡ total_length m
+pub way_start : (profile : Profile) (m : List ℕ) (total : ℕ) → edition m ≡ 2 → first_fault (head_rules m) ≡ None → total ≡ total_length m
     → OnWay profile m (length m) [] (record { total = total; place = 17; last = 0 })
 way_start profile m total second none is =
-    let p = head_passes m (λ first. absurd (omega arith)) (passes_from_none (head_rows m) none) in
+    let p = head_passes m (λ first. absurd (omega arith)) (passes_from_none (head_rules m) none) in
     record {
       states = sym is;
       last_is = refl;
@@ -109,7 +109,7 @@ way_start profile m total second none is =
       within = omega (arith, p.least);
       longest = omega (arith, p.most);
       there = omega (arith, p.there);
-      verdict = unless_none (first_fault (head_rows m)) (λ _. verdict_from profile (length m + 1) m [] 17) none
+      verdict = unless_none (first_fault (head_rules m)) (λ _. verdict_from profile (length m + 1) m [] 17) none
           ∙ ap (λ (t : ℕ). verdict_from profile t m [] 17) (add-one (length m));
       fields = λ i. ap (λ (n : ℕ). field_sections m n) (zero-add (suc i));
       count = sym (zero-add (field_count m));
@@ -151,9 +151,9 @@ pub record AtEnd (profile : Profile) (m : List ℕ) (before : List Placed) (tota
 
 pub way_end : (profile : Profile) (m : List ℕ) (turns : ℕ) (before : List Placed) (at : Position) → OnWay profile m turns before at → step_from m at ≡ End → AtEnd profile m before at.total
 way_end profile m turns before at w e =
-    let told = tells_end (first_fault (mark_rows m at.total at.last at.place)) (ends_at m at.place) (first_fault (frame_rows m at.total at.last at.place)) (section_at m at.place) e in
+    let told = tells_end (first_fault (mark_rules m at.total at.last at.place)) (ends_at m at.place) (first_fault (frame_rules m at.total at.last at.place)) (section_at m at.place) e in
     let none = no_sections turns m at.place told.1 in
-    let mark = mark_passes m at.total at.last at.place (passes_from_none (mark_rows m at.total at.last at.place) told.0) in
+    let mark = mark_passes m at.total at.last at.place (passes_from_none (mark_rules m at.total at.last at.place) told.0) in
     let last : last_number before ≡ 7 = w.last_is ∙ eqb-true at.last 7 (mark.may_end told.1) in
     record {
       accepted = way_verdict profile m turns before at End w e;

@@ -5,9 +5,9 @@ use Rattle.std.proofs.lemmas.Bool.{and_left, and_right, or_parts, or_from, not-f
 use Rattle.std.proofs.lemmas.List.{drop-take}
 use Rattle.grib_bits.specs.Octets.{octets, num_on}
 use Rattle.grib_base.specs.declared.profile.Profile.{Profile}
-use Rattle.grib_base.specs.Rows.{first_fault}
+use Rattle.grib_base.specs.Rules.{first_fault}
 use Rattle.grib2_sections.specs.Verdict.{Accepted}
-use Rattle.grib2_sections.specs.Head.{indicator, end_mark, edition, total_length, total_length_1, head_rows}
+use Rattle.grib2_sections.specs.Head.{indicator, end_mark, edition, total_length, total_length_1, head_rules}
 use Rattle.grib2_message.specs.Acceptance.{verdict_under, verdict_from}
 use Rattle.grib2_message.specs.Grammar.{GrammarUnder}
 use Rattle.grib2_message.specs.Fields.{sections_of}
@@ -32,7 +32,7 @@ octets_before message after first last low order within =
     sym (octets_of_front (message ++ after) (length message) first last low order within)
     ∙ ap (λ xs. octets xs first last) (take_at message after (length message) refl)
 
--- what the rows of Section 0 say of edition 2 where they pass
+-- what the rules of Section 0 say of edition 2 where they pass
 pub record HeadPasses (m : List ℕ) : Type 0 where
   pub second_edition : edition m ≡ 2
   pub there : 16 ≤ length m
@@ -40,7 +40,7 @@ pub record HeadPasses (m : List ℕ) : Type 0 where
   pub most : total_length m ≤ 268435456
 
 -- they say so where the edition is not 1
-pub head_passes : (m : List ℕ) → edition m ≢ 1 → AllPass (head_rows m) → HeadPasses m
+pub head_passes : (m : List ℕ) → edition m ≢ 1 → AllPass (head_rules m) → HeadPasses m
 head_passes m other p =
     let is_other : (edition m == 1) ≡ false = ne_eqb (edition m) 1 other in
     let is_second : (edition m == 2) ≡ true =
@@ -55,7 +55,7 @@ head_passes m other p =
     }
 
 -- and they pass where that is so
-pub head_pass : (m : List ℕ) → edition m ≡ 2 → 16 ≤ length m → 20 ≤ total_length m → total_length m ≤ 268435456 → AllPass (head_rows m)
+pub head_pass : (m : List ℕ) → edition m ≡ 2 → 16 ≤ length m → 20 ≤ total_length m → total_length m ≤ 268435456 → AllPass (head_rules m)
 head_pass m second there least most =
     let not_first : (edition m == 1) ≡ false = ne_eqb (edition m) 1 (λ same. omega arith) in
     let is_second : (edition m == 2) ≡ true = eq-eqb (edition m) 2 second in (
@@ -111,8 +111,8 @@ in_grammar profile rest total starts p f =
 pub accepted_in_grammar : (profile : Profile) (rest : List ℕ) (total : ℕ) → All (λ octet. octet < 256) (take total rest) → take 4 rest ≡ indicator → edition rest ≢ 1
     → verdict_under profile rest ≡ Accepted total → (sections : List (List ℕ)) × (total ≤ length rest) × GrammarUnder profile (take total rest) sections
 accepted_in_grammar profile rest total small starts other e =
-    let told = unless_tells (first_fault (head_rows rest)) (λ _. verdict_from profile (length rest + 1) rest [] 17) total e in
-    let p = head_passes rest other (passes_from_none (head_rows rest) told.0) in
+    let told = unless_tells (first_fault (head_rules rest)) (λ _. verdict_from profile (length rest + 1) rest [] 17) total e in
+    let p = head_passes rest other (passes_from_none (head_rules rest) told.0) in
     let f = walked profile (length rest + 1) rest [] 17 total small (omega arith) (omega (arith, p.least)) told.1 in
     let g = in_grammar profile rest total starts p f in
     (f.sections, g.0, g.1)
@@ -146,7 +146,7 @@ grammar_accepted profile message after sections g =
     let head = head_pass m second (omega arith) (omega arith) (omega (arith, g.most)) in
     let s = stand_after profile message after sections g in
     let h : Stand m 17 (total_length m) sections after = rw stands s in
-    unless_none (first_fault (head_rows m)) (λ _. verdict_from profile (length m + 1) m [] 17) (none_from_passes (head_rows m) head)
+    unless_none (first_fault (head_rules m)) (λ _. verdict_from profile (length m + 1) m [] 17) (none_from_passes (head_rules m) head)
     ∙ (rejoined profile sections (length m + 1) m [] 17 after g.sections_follow h (omega (arith, s.ends)) ∙ ap Accepted stands)
 
 -- the sections that are found are those of the grammar, with their places, whatever comes after the message

@@ -1,19 +1,19 @@
 -- Which octets are a message of edition 2, and why others are refused (WMO-No. 306, Volume I.2, FM 92
--- GRIB edition 2, in the profiles of docs/PROFILE.md): the rows of Section 0, then, for each section in
--- turn, the rows of its frame and those of its contents. The first row that fails gives the refusal.
+-- GRIB edition 2, in the profiles of docs/PROFILE.md): the rules of Section 0, then, for each section in
+-- turn, the rules of its frame and those of its contents. The first rule that fails gives the refusal.
 use Rattle.std.specs.Prelude.{ℕ, zero, suc, ◌+◌, Option, Some, None, List, [], ◌∷◌, length, get_or}
 use Rattle.grib_base.specs.declared.fault.Fault.{Fault}
 use Rattle.grib_base.specs.declared.fault.Reason.TheVariants.{Truncated}
 use Rattle.grib_base.specs.declared.profile.Profile.{Profile}
 use Rattle.grib_base.specs.declared.profile.Profile.TheVariants.{Stated}
-use Rattle.grib_base.specs.Rows.{first_fault, first_fault_at, located, refusal}
+use Rattle.grib_base.specs.Rules.{first_fault, first_fault_at, located, refusal}
 use Rattle.grib2_sections.specs.Verdict.{Verdict, Accepted, Refused}
-use Rattle.grib2_sections.specs.Head.{head_rows, total_length}
+use Rattle.grib2_sections.specs.Head.{head_rules, total_length}
 use Rattle.grib2_sections.specs.Frame.{Placed, placed_at, section_number, Step, End, Fails, Next, step}
-use Rattle.grib2_sections.specs.Identification.{identification_rows}
-use Rattle.grib2_grids.specs.Opaque.{grid_rows_under}
-use Rattle.grib2_products.specs.Opaque.{product_rows_under}
-use Rattle.grib_bitmap.specs.Mask.{bitmap_rows}
+use Rattle.grib2_sections.specs.Identification.{identification_rules}
+use Rattle.grib2_grids.specs.Opaque.{grid_rules_under}
+use Rattle.grib2_products.specs.Opaque.{product_rules_under}
+use Rattle.grib_bitmap.specs.Mask.{bitmap_rules}
 use Rattle.grib_packing.specs.Packing.{value_count}
 use Rattle.grib_packing.specs.Entries.{packing_fault_under, data_fault}
 use Rattle.grib2_message.specs.View.{last_number, octets_in_force, points_in_force, earlier_mask, section_count}
@@ -22,36 +22,36 @@ use Rattle.grib2_message.specs.View.{last_number, octets_in_force, points_in_for
 abbrev pub Contents : Type 0
 Contents = List Placed → Placed → Option Fault
 
-abbrev pub no_rows : Contents
-no_rows before s = None
+abbrev pub no_rules : Contents
+no_rules before s = None
 
 abbrev pub identification_fault : Contents
-identification_fault before s = first_fault_at s.start (identification_rows s.octets)
+identification_fault before s = first_fault_at s.start (identification_rules s.octets)
 
 abbrev pub grid_fault : Profile → Contents
-grid_fault profile before s = first_fault_at s.start (grid_rows_under profile s.octets)
+grid_fault profile before s = first_fault_at s.start (grid_rules_under profile s.octets)
 
 abbrev pub product_fault : Profile → Contents
-product_fault profile before s = first_fault_at s.start (product_rows_under profile s.octets (section_count 4 before + 1))
+product_fault profile before s = first_fault_at s.start (product_rules_under profile s.octets (section_count 4 before + 1))
 
 abbrev pub representation_fault : Profile → Contents
 representation_fault profile before s = located s.start (packing_fault_under profile s.octets (points_in_force before))
 
 abbrev pub bitmap_fault : Contents
 bitmap_fault before s =
-    first_fault_at s.start (bitmap_rows s.octets (points_in_force before) (value_count (octets_in_force 5 before)) (earlier_mask before))
+    first_fault_at s.start (bitmap_rules s.octets (points_in_force before) (value_count (octets_in_force 5 before)) (earlier_mask before))
 
 abbrev pub values_fault : Contents
 values_fault before s = located s.start (data_fault (octets_in_force 5 before) s.octets)
 
--- by the number of the section, from 0 on; Section 2 has no rows
+-- by the number of the section, from 0 on; Section 2 has no rules
 abbrev pub contents_faults : Profile → List Contents
 contents_faults profile =
-    no_rows ∷ identification_fault ∷ no_rows ∷ grid_fault profile ∷ product_fault profile ∷ representation_fault profile ∷ bitmap_fault
+    no_rules ∷ identification_fault ∷ no_rules ∷ grid_fault profile ∷ product_fault profile ∷ representation_fault profile ∷ bitmap_fault
     ∷ values_fault ∷ []
 
 abbrev pub section_fault_under : Profile → Contents
-section_fault_under profile before s = get_or (contents_faults profile) (section_number s.octets) no_rows before s
+section_fault_under profile before s = get_or (contents_faults profile) (section_number s.octets) no_rules before s
 
 -- refused, or whatever comes after
 abbrev pub unless_refused : Option Fault → (Unit {0} → Verdict) → Verdict
@@ -77,7 +77,7 @@ verdict_from profile (suc turns) message before q =
 -- message, or refused. It is asked where octet 8 is not 1 or does not stand; edition 1 has a verdict of
 -- its own.
 abbrev pub verdict_under : Profile → List ℕ → Verdict
-verdict_under profile rest = unless_refused (first_fault (head_rows rest)) (λ _. verdict_from profile (length rest + 1) rest [] 17)
+verdict_under profile rest = unless_refused (first_fault (head_rules rest)) (λ _. verdict_from profile (length rest + 1) rest [] 17)
 
 -- ---- under the profile of the stated templates
 

@@ -3,15 +3,15 @@
 use Rattle.std.specs.Prelude.{◌≡◌, ◌⊎◌, ℕ, ◌+◌, ◌≤◌, ◌<◌, ◌^◌, Bool, cond, Option, Some, None, List, [], ◌∷◌, ◌++◌, length, take, drop, slice_get, ◌==◌}
 use Rattle.std.specs.List.{concat}
 use Rattle.grib_bits.specs.Octets.{StatesItself}
-use Rattle.grib_base.specs.Rows.{first_fault}
+use Rattle.grib_base.specs.Rules.{first_fault}
 use Rattle.grib_base.specs.declared.profile.Profile.{Profile}
 use Rattle.grib_base.specs.declared.profile.Profile.TheVariants.{Stated}
 use Rattle.grib_bits.specs.Encoding.{octets_of}
 use Rattle.grib2_sections.specs.Head.{end_mark}
 use Rattle.grib2_sections.specs.Frame.{Placed, section_number}
 use Rattle.grib2_grids.specs.Grid.{grid_points}
-use Rattle.grib2_grids.specs.Opaque.{grid_rows_under}
-use Rattle.grib_bitmap.specs.Mask.{bitmap_indicator, bitmap_rows}
+use Rattle.grib2_grids.specs.Opaque.{grid_rules_under}
+use Rattle.grib_bitmap.specs.Mask.{bitmap_indicator, bitmap_rules}
 use Rattle.grib_packing.specs.Packing.{value_count}
 use Rattle.grib_packing.specs.Entries.{packing_fault_under, data_fault}
 use Rattle.grib_packing.specs.declared.written.Packed.{Packed}
@@ -75,22 +75,22 @@ IsAssembleFault total (TooLong n) = (n ≡ total) × (268435456 < n)
 IsAssembleFault total Memory = Unit {0}
 
 -- Sections 5, 6 and 7 of a field with this many grid points, each with its length and its number, which no
--- row of a profile refuses, whatever bitmap came before: its own is new, or there is none.
+-- rule of a profile refuses, whatever bitmap came before: its own is new, or there is none.
 pub record PartsPassUnder (profile : Profile) (points : ℕ) (part : Packed) : Type 0 where
   pub itself_5 : StatesItself 5 part.section5
   pub itself_6 : StatesItself 6 part.section6
   pub itself_7 : StatesItself 7 part.section7
   pub packing : packing_fault_under profile part.section5 points ≡ None
   pub alone : (bitmap_indicator part.section6 ≡ 0) ⊎ (bitmap_indicator part.section6 ≡ 255)
-  pub bitmap : (earlier : Option (List Bool)) → first_fault (bitmap_rows part.section6 points (value_count part.section5) earlier) ≡ None
+  pub bitmap : (earlier : Option (List Bool)) → first_fault (bitmap_rules part.section6 points (value_count part.section5) earlier) ≡ None
   pub values : data_fault part.section5 part.section7 ≡ None
 
--- a Section 3 with its length and its number, which no row refuses
+-- a Section 3 with its length and its number, which no rule refuses
 pub record IsGridUnder (profile : Profile) (s : List ℕ) : Type 0 where
   pub itself : StatesItself 3 s
-  pub rows : first_fault (grid_rows_under profile s) ≡ None
+  pub rules : first_fault (grid_rules_under profile s) ≡ None
 
--- An accepted message, each Section 3 of which becomes one that no row refuses, and a part for each field that
+-- An accepted message, each Section 3 of which becomes one that no rule refuses, and a part for each field that
 -- may stand in it.
 pub record MayBeAssembledWithUnder (profile : Profile) (grid : List ℕ → List ℕ) (message : List ℕ) (parts : List Packed) : Type 0 where
   pub accepted : IsMessageUnder profile message

@@ -2,7 +2,7 @@
 -- Section 7 ends one, and what a group of sections does not repeat stays in force.
 use Rattle.std.specs.Prelude.{ℕ, zero, suc, ◌+◌, ◌-◌, cond, ◌&&◌, Bool, Option, List, [], ◌∷◌, length, map, ◌==◌, count_by}
 use Rattle.grib_bits.specs.Bits.{bits_of, signed, digit}
-use Rattle.grib_base.specs.Rows.{choose}
+use Rattle.grib_base.specs.Rules.{choose}
 use Rattle.grib_dyadic.specs.Reference.{ieee}
 use Rattle.grib_dyadic.specs.Value.{value_of}
 use Rattle.grib_dyadic.specs.Meaning.{Meant, valued, missing, missing2}

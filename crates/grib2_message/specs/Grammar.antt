@@ -17,7 +17,7 @@ pub record IsSection (profile : Profile) (before : List Placed) (start : ℕ) (s
   pub length_stands : section_length s ≡ length s
   pub least : 5 ≤ length s
   pub follows : IsTrue (may_follow (last_number before) (section_number s))
-  pub rows_hold : section_fault_under profile before (placed_at start s) ≡ None
+  pub rules_hold : section_fault_under profile before (placed_at start s) ≡ None
 
 -- the sections may follow one another from octet `start` on, and the last may be the last
 abbrev pub AreSections : Profile → List Placed → ℕ → List (List ℕ) → Type 0

@@ -5,14 +5,14 @@ use Rattle.grib_bits.specs.Bits.{digit}
 use Rattle.grib_bits.specs.Octets.{octets, StatesItself}
 use Rattle.grib_base.specs.declared.fault.Fault.{Fault}
 use Rattle.grib_base.specs.declared.fault.Reason.TheVariants.{NoEarlierBitmap, BitmapSize}
-use Rattle.grib_base.specs.Rows.{row, first_fault}
+use Rattle.grib_base.specs.Rules.{rule, first_fault}
 use Rattle.grib_base.specs.declared.profile.Profile.{Profile}
 use Rattle.grib2_sections.specs.Head.{total_length}
 use Rattle.grib2_sections.specs.Frame.{Placed, section_at, section_number, may_follow}
-use Rattle.grib2_sections.specs.Identification.{identification_rows}
-use Rattle.grib2_grids.specs.Opaque.{grid_rows_under}
-use Rattle.grib2_products.specs.Opaque.{product_rows_under}
-use Rattle.grib_bitmap.specs.Mask.{bitmap_indicator, bitmap_rows, mask_of, present_count}
+use Rattle.grib2_sections.specs.Identification.{identification_rules}
+use Rattle.grib2_grids.specs.Opaque.{grid_rules_under}
+use Rattle.grib2_products.specs.Opaque.{product_rules_under}
+use Rattle.grib_bitmap.specs.Mask.{bitmap_indicator, bitmap_rules, mask_of, present_count}
 use Rattle.grib_packing.specs.Packing.{value_count}
 use Rattle.grib_packing.specs.Entries.{packing_fault_under, data_fault, is_opaque_packing}
 use Rattle.grib_packings.specs.Field.{IsDataOf}
@@ -44,13 +44,13 @@ ArePlaced message (s ∷ before) =
 abbrev pub start_in_force : ℕ → List Placed → ℕ
 start_in_force number before = option_map_or (λ s. s.start) (section_in_force number before) 0
 
--- what is known of a Section 6 with bits of its own, which no row refused, by the sections before it
+-- what is known of a Section 6 with bits of its own, which no rule refused, by the sections before it
 pub record IsBitmap (bitmap : Bitmap) (s : Placed) (before : List Placed) : Type 0 where
   pub start : bitmap.start ≡ s.start
   pub points : bitmap.points ≡ points_in_force before
   pub numbered : section_number s.octets ≡ 6
   pub own : bitmap_indicator s.octets ≡ 0
-  pub rows : first_fault (bitmap_rows s.octets bitmap.points bitmap.present None) ≡ None
+  pub rules : first_fault (bitmap_rules s.octets bitmap.points bitmap.present None) ≡ None
 
 -- it is kept of the first of these sections, where there is one
 abbrev pub KeepsBitmap : Option Bitmap → List Placed → Type 0
@@ -66,7 +66,7 @@ KeepsRepresentation None (Some s) = ⊥
 KeepsRepresentation (Some representation) None = ⊥
 KeepsRepresentation (Some representation) (Some s) = IsDataOf representation s.octets
 
--- what the row on bitmaps asks of an earlier one
+-- what the rule on bitmaps asks of an earlier one
 abbrev pub TellsBitmap : Option Bitmap → Option (List Bool) → Type 0
 TellsBitmap None None = Unit {0}
 TellsBitmap None (Some mask) = ⊥
@@ -77,32 +77,32 @@ TellsBitmap (Some bitmap) (Some mask) = (length mask ≡ bitmap.points) × (pres
 abbrev pub begun : ℕ → ℕ
 begun last = digit (last == 4 || last == 5 || last == 6)
 
--- what is known of sections that no row refused, by the number of the last: which are in force, and what
--- their rows say
+-- what is known of sections that no rule refused, by the number of the last: which are in force, and what
+-- their rules say
 pub record AreSound (profile : Profile) (before : List Placed) : Type 0 where
   pub present : (k : ℕ) → 1 ≤ k → k ≤ last_number before → k ≢ 2 → IsSome (section_in_force k before)
-  pub identification : 1 ≤ last_number before → first_fault (identification_rows (octets_in_force 1 before)) ≡ None
-  pub grid : 3 ≤ last_number before → first_fault (grid_rows_under profile (octets_in_force 3 before)) ≡ None
-  pub product : 4 ≤ last_number before → first_fault (product_rows_under profile (octets_in_force 4 before) 1) ≡ None
+  pub identification : 1 ≤ last_number before → first_fault (identification_rules (octets_in_force 1 before)) ≡ None
+  pub grid : 3 ≤ last_number before → first_fault (grid_rules_under profile (octets_in_force 3 before)) ≡ None
+  pub product : 4 ≤ last_number before → first_fault (product_rules_under profile (octets_in_force 4 before) 1) ≡ None
   pub packing : 5 ≤ last_number before → packing_fault_under profile (octets_in_force 5 before) (points_in_force before) ≡ None
   pub bitmap : 6 ≤ last_number before
-      → first_fault (bitmap_rows (octets_in_force 6 before) (points_in_force before) (value_count (octets_in_force 5 before)) (earlier_mask before)) ≡ None
+      → first_fault (bitmap_rules (octets_in_force 6 before) (points_in_force before) (value_count (octets_in_force 5 before)) (earlier_mask before)) ≡ None
   pub mask : 6 ≤ last_number before
       → mask_in_force before ≡ mask_of (octets_in_force 6 before) (points_in_force before) (earlier_mask before)
   pub values : 7 ≤ last_number before → data_fault (octets_in_force 5 before) (octets_in_force 7 before) ≡ None
   pub counted : section_count 4 before ≡ section_count 7 before + begun (last_number before)
   pub few : section_count 4 before ≤ 4096
 
--- the rows on an earlier bitmap that is to be taken again, for this number of points
+-- the rules on an earlier bitmap that is to be taken again, for this number of points
 abbrev pub earlier_fault : ℕ → Option (List Bool) → Option Fault
 earlier_fault points earlier =
     let earlier_length = length (unwrap_or earlier []) in
     first_fault (
-    row (is_none earlier) 6 NoEarlierBitmap 254
-    ∷ row (not (earlier_length == points)) 6 BitmapSize earlier_length
+    rule (is_none earlier) 6 NoEarlierBitmap 254
+    ∷ rule (not (earlier_length == points)) 6 BitmapSize earlier_length
     ∷ [])
 
--- what these sections have in force, of which no row refused one
+-- what these sections have in force, of which no rule refused one
 pub record HasInForce (before : List Placed) (force : InForce) : Type 0 where
   pub points : force.points ≡ points_in_force before
   pub representation : KeepsRepresentation force.representation (section_in_force 5 before)

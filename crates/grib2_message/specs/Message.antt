@@ -1,15 +1,15 @@
 -- A message of edition 2 as a whole.
 use Rattle.std.specs.Prelude.{◌≡◌, ℕ, ◌≤◌, false, Option, Some, None, List, length, take, find}
 use Rattle.std.specs.List.{range_with_len}
-use Rattle.grib_base.specs.Rows.{first_fault}
+use Rattle.grib_base.specs.Rules.{first_fault}
 use Rattle.grib_base.specs.declared.profile.Profile.{Profile}
 use Rattle.grib_base.specs.declared.profile.Profile.TheVariants.{Stated, Open}
 use Rattle.grib2_sections.specs.Verdict.{Accepted}
 use Rattle.grib2_sections.specs.Head.{indicator, edition}
-use Rattle.grib2_sections.specs.Identification.{identification_rows}
+use Rattle.grib2_sections.specs.Identification.{identification_rules}
 use Rattle.grib2_grids.specs.Grid.{grid_points}
-use Rattle.grib2_grids.specs.Opaque.{grid_rows_under}
-use Rattle.grib2_products.specs.Opaque.{product_rows_under}
+use Rattle.grib2_grids.specs.Opaque.{grid_rules_under}
+use Rattle.grib2_products.specs.Opaque.{product_rules_under}
 use Rattle.grib_packing.specs.Packing.{packing_template}
 use Rattle.grib_packing.specs.Entries.{packing_fault, packing_fault_under, data_fault, is_opaque_packing}
 use Rattle.grib2_message.specs.Acceptance.{verdict_under}
@@ -22,11 +22,11 @@ pub record IsMessageUnder (profile : Profile) (octets : List ℕ) : Type 0 where
   pub edition_stands : edition octets ≡ 2
   pub accepted : verdict_under profile octets ≡ Accepted (length octets)
 
--- no row refuses the sections in force for field i; each has the octets that its rows ask for
+-- no rule refuses the sections in force for field i; each has the octets that its rules ask for
 pub record FieldPassesUnder (profile : Profile) (message : List ℕ) (i : ℕ) : Type 0 where
-  pub identification : first_fault (identification_rows (part_octets message i 1)) ≡ None
-  pub grid : first_fault (grid_rows_under profile (part_octets message i 3)) ≡ None
-  pub product : first_fault (product_rows_under profile (part_octets message i 4) 1) ≡ None
+  pub identification : first_fault (identification_rules (part_octets message i 1)) ≡ None
+  pub grid : first_fault (grid_rules_under profile (part_octets message i 3)) ≡ None
+  pub product : first_fault (product_rules_under profile (part_octets message i 4) 1) ≡ None
   pub packing : packing_fault_under profile (part_octets message i 5) (grid_points (part_octets message i 3)) ≡ None
   pub values : data_fault (part_octets message i 5) (part_octets message i 7) ≡ None
 
@@ -49,11 +49,11 @@ HasValues message i = is_opaque_packing (part_octets message i 5) ≡ false
 abbrev pub IsReadable : List ℕ → Type 0
 IsReadable message = (i : ℕ) → 1 ≤ i → i ≤ field_count message → HasValues message i
 
--- no row refuses the sections in force for field i, and its values can be read
+-- no rule refuses the sections in force for field i, and its values can be read
 pub record FieldReadsUnder (profile : Profile) (message : List ℕ) (i : ℕ) : Type 0 where
-  pub identification : first_fault (identification_rows (part_octets message i 1)) ≡ None
-  pub grid : first_fault (grid_rows_under profile (part_octets message i 3)) ≡ None
-  pub product : first_fault (product_rows_under profile (part_octets message i 4) 1) ≡ None
+  pub identification : first_fault (identification_rules (part_octets message i 1)) ≡ None
+  pub grid : first_fault (grid_rules_under profile (part_octets message i 3)) ≡ None
+  pub product : first_fault (product_rules_under profile (part_octets message i 4) 1) ≡ None
   pub packing : packing_fault (part_octets message i 5) (grid_points (part_octets message i 3)) ≡ None
   pub values : data_fault (part_octets message i 5) (part_octets message i 7) ≡ None
 

@@ -8,7 +8,7 @@ use Rattle.grib2_sections.specs.Head.{discipline}
 use Rattle.grib2_sections.specs.declared.identification.Identification.{Identification}
 use Rattle.grib2_grids.specs.Grid.{grid_points, grid_template}
 use Rattle.grib2_products.specs.Product.{product_template}
-use Rattle.grib2_products.specs.Opaque.{instant_shift}
+use Rattle.grib2_sections.specs.Instant.{instant_shift}
 use Rattle.grib_packing.specs.Packing.{packing_template, bit_width, value_count}
 use Rattle.grib_packing.specs.Entries.{is_opaque_packing}
 use Rattle.grib2_message.specs.declared.summary.FieldSummary.{FieldSummary}

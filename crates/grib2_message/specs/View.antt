@@ -2,7 +2,7 @@
 -- (WMO-No. 306, Volume I.2, FM 92 GRIB edition 2: what a group of sections does not repeat stays in force).
 use Rattle.std.specs.Prelude.{ℕ, Bool, ◌&&◌, Option, Some, None, List, [], ◌∷◌, ◌==◌, count_by, find}
 use Rattle.std.specs.Option.{option_map_or}
-use Rattle.grib_base.specs.Rows.{choose}
+use Rattle.grib_base.specs.Rules.{choose}
 use Rattle.grib2_sections.specs.Frame.{Placed, section_number}
 use Rattle.grib2_grids.specs.Grid.{grid_points}
 use Rattle.grib_bitmap.specs.Mask.{bitmap_indicator, own_mask, mask_of}

@@ -93,7 +93,7 @@ fn put_section<G: NewGrid>(
     }
 }
 
-/// The next section of a message of which no row refuses a section, or nothing at its End Section.
+/// The next section of a message of which no rule refuses a section, or nothing at its End Section.
 fn next_section<'a>(frame: &mut Frame, octets: &'a [u8]) -> Option<Section<'a>>
     requires { (fault : Fault) → step_from octets.now frame.old ≢ Fails fault }
     ensures { MatchOption result (step_from octets.now frame.old ≡ End)

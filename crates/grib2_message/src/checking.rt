@@ -1,11 +1,11 @@
-//! The rows of the profile that decide whether a section is accepted.
+//! The rules of the profile that decide whether a section is accepted.
 
 ghost use Rattle.std.specs.Prelude.{◌≡◌, ◌+◌, ◌==◌, not, List, [], ◌∷◌, Bool, Option, None, unwrap_or, MatchResult};
-ghost use Rattle.grib_base.specs.Rows.{first_fault, first_fault_at, located, row};
-ghost use Rattle.grib2_grids.specs.Opaque.{grid_rows_under};
-ghost use Rattle.grib2_products.specs.Opaque.{product_rows_under};
-ghost use Rattle.grib_bitmap.specs.Mask.{bitmap_rows, present_count};
-ghost use Rattle.grib2_sections.specs.Identification.{identification_rows};
+ghost use Rattle.grib_base.specs.Rules.{first_fault, first_fault_at, located, rule};
+ghost use Rattle.grib2_grids.specs.Opaque.{grid_rules_under};
+ghost use Rattle.grib2_products.specs.Opaque.{product_rules_under};
+ghost use Rattle.grib_bitmap.specs.Mask.{bitmap_rules, present_count};
+ghost use Rattle.grib2_sections.specs.Identification.{identification_rules};
 ghost use Rattle.grib_base.specs.declared.fault.Reason.TheVariants.{ValueCount};
 ghost use Rattle.grib2_message.specs.Kept.{TellsBitmap, earlier_fault};
 ghost use Rattle.grib_base.specs.Faults.{AreTried, IsReadFault};
@@ -19,31 +19,31 @@ use std::alloc::Global;
 /// The most fields of a message.
 const MOST_FIELDS: usize = 4096;
 
-/// Tries the row of Section 1.
+/// Tries the rule of Section 1.
 pub fn check_identification(section: &Section<'_>) -> Result<(), ReadFault>
     ensures { AreTried (first_fault_at section.now.start
-        (identification_rows section.now.octets.now)) result }
+        (identification_rules section.now.octets.now)) result }
 {
     read_identification(section)?;
     Ok(())
 }
 
-/// Tries the rows of Section 3.
+/// Tries the rules of Section 3.
 pub fn check_grid(profile: Profile, section: &Section<'_>) -> Result<(), ReadFault>
     ensures { AreTried (first_fault_at section.now.start
-        (grid_rows_under profile section.now.octets.now)) result }
+        (grid_rules_under profile section.now.octets.now)) result }
 {
     Ok(grib2_grids::check_grid_under(profile, section)?)
 }
 
-/// Tries the rows of a Section 4 that stands after this number of fields.
+/// Tries the rules of a Section 4 that stands after this number of fields.
 pub fn check_product(
     profile: Profile,
     fields: usize,
     section: &Section<'_>,
 ) -> Result<(), ReadFault>
     ensures { AreTried (first_fault_at section.now.start
-        (product_rows_under profile section.now.octets.now (fields + 1))) result }
+        (product_rules_under profile section.now.octets.now (fields + 1))) result }
 {
     if fields == MOST_FIELDS && section.octets.len() >= 9 {
         return Err(ReadFault::Refused(Fault::at(
@@ -55,7 +55,7 @@ pub fn check_product(
     Ok(grib2_products::check_product_under(profile, section)?)
 }
 
-/// Tries the rows of a Section 6, where the grid in force has this number of points and Section 5 this number
+/// Tries the rules of a Section 6, where the grid in force has this number of points and Section 5 this number
 /// of values, after the last Section 6 with bits of its own. Memory is taken only for bits of its own.
 pub fn check_bitmap(
     alloc: Global,
@@ -66,7 +66,7 @@ pub fn check_bitmap(
 ) -> Result<(), ReadFault>
     ensures { (mask : Option (List Bool)) → TellsBitmap earlier mask
         → AreTried (first_fault_at section.now.start
-        (bitmap_rows section.now.octets.now points values mask)) result }
+        (bitmap_rules section.now.octets.now points values mask)) result }
 {
     let octets = section.octets;
     if octets.len() > 5 && octets[5] == 255 {
@@ -105,10 +105,10 @@ fn check_earlier(
     Ok(bitmap.present)
 }
 
-/// Tries the last row of Section 6: as many points are present as there are values.
+/// Tries the last rule of Section 6: as many points are present as there are values.
 fn check_count(section: &Section<'_>, present: u32, values: u32) -> Result<(), ReadFault>
     ensures { AreTried (located section.now.start
-        (first_fault (row (not (present == values)) 6 ValueCount present ∷ []))) result }
+        (first_fault (rule (not (present == values)) 6 ValueCount present ∷ []))) result }
 {
     if present != values {
         return Err(ReadFault::Refused(Fault::at(

@@ -1,8 +1,8 @@
 //! The column of a field.
 
 ghost use Rattle.std.specs.Prelude.{◌≡◌, ◌≤◌, ℕ, List, None, length, IfOk};
-ghost use Rattle.grib_base.specs.Rows.{first_fault};
-ghost use Rattle.grib_bitmap.specs.Mask.{bitmap_rows, mask_of, present_count};
+ghost use Rattle.grib_base.specs.Rules.{first_fault};
+ghost use Rattle.grib_bitmap.specs.Mask.{bitmap_rules, mask_of, present_count};
 ghost use Rattle.grib_packing.specs.Entries.{column_from, entries_of};
 ghost use Rattle.grib_packing.specs.Packing.{value_count};
 ghost use Rattle.grib_packings.specs.Field.{Represents};
@@ -115,14 +115,14 @@ pub(crate) fn own_bitmap<'a>(octets: &'a [u8], places: &Places) -> Section<'a>
     section_from(octets, bitmap.start, 6)
 }
 
-/// The mask of a Section 6 that no row refuses where there is no earlier bitmap.
+/// The mask of a Section 6 that no rule refuses where there is no earlier bitmap.
 fn accepted_mask(
     alloc: Global,
     section: &Section<'_>,
     points: u32,
     values: u32,
 ) -> Result<Mask, AllocError>
-    requires accepted { first_fault (bitmap_rows section.now.octets.now points values None) ≡ None }
+    requires accepted { first_fault (bitmap_rules section.now.octets.now points values None) ≡ None }
     ensures { IfOk result (λ mask. mask ≡ mask_of section.now.octets.now points None) }
 {
     match read_mask(alloc, section, points, values, None) {

@@ -28,7 +28,7 @@ pub struct Bitmap {
     pub present: u32,
 }
 
-/// What the sections so far have in force, as far as the rows of the next section ask for it (WMO-No. 306,
+/// What the sections so far have in force, as far as the rules of the next section ask for it (WMO-No. 306,
 /// Volume I.2, FM 92 GRIB edition 2: what a group of sections does not repeat stays in force). It has no
 /// octets of the message.
 #[derive(Clone, Copy, Debug)]
@@ -71,11 +71,11 @@ impl InForce {
         }
     }
 
-    /// Moves past the next section, where no row refuses its contents. Otherwise it is as it was.
+    /// Moves past the next section, where no rule refuses its contents. Otherwise it is as it was.
     ///
     /// # Errors
     ///
-    /// The first row of its contents that fails, or there is no memory.
+    /// The first rule of its contents that fails, or there is no memory.
     pub fn go_past(&mut self, alloc: Global, section: &Section<'_>) -> Result<(), ReadFault>
         requires follows { (before : List Placed) × HasInForce before self.old
             × IsTrue (may_follow (last_number before) section.now.number) }
@@ -116,7 +116,7 @@ impl InForce {
         }
     }
 
-    /// Goes past a Section 7, which no row refused: a field ends.
+    /// Goes past a Section 7, which no rule refused: a field ends.
     pub fn end_field(&mut self)
         requires few { (before : List Placed) × HasInForce before self.old }
         ensures force { (before : List Placed) (s : Placed) → HasInForce before self.old
@@ -127,7 +127,7 @@ impl InForce {
         self.fields += 1;
     }
 
-    /// Tries the rows of the next section, which is a Section 6, and gives the last one with bits of its own.
+    /// Tries the rules of the next section, which is a Section 6, and gives the last one with bits of its own.
     fn bitmap_after(
         &self,
         alloc: Global,

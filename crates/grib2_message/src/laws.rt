@@ -64,7 +64,7 @@ pub fn accepted_length()
         → verdict_under profile octets ≡ Accepted total → verdict_under profile (take total octets) ≡ Accepted total }
 {}
 
-/// The sections in force for each field of an accepted message pass their rows, and the mask of the field has
+/// The sections in force for each field of an accepted message pass their rules, and the mask of the field has
 /// one bit for each grid point. The values of each message that the profile of the stated templates accepts can be
 /// read.
 pub fn field_holds()
@@ -79,7 +79,7 @@ pub fn field_holds()
         → length (field_mask message i) ≡ grid_points (part_octets message i 3) }
 {}
 
-/// An accepted message with other Sections 5, 6 and 7 that pass their rows is accepted, where it is not too
+/// An accepted message with other Sections 5, 6 and 7 that pass their rules is accepted, where it is not too
 /// long. It has as many fields. Each field has the Sections 5, 6 and 7 of its part, hence their column, and
 /// its Sections 1 to 4 as they were.
 pub fn what_is_assembled_is_accepted()
@@ -102,7 +102,7 @@ pub fn what_is_assembled_is_accepted()
         → (i k : ℕ) → k ≤ 4 → part_octets (assembled message parts) i k ≡ part_octets message i k }
 {}
 
-/// An accepted message of which each Section 3 becomes another that passes its rows, with other Sections 5, 6
+/// An accepted message of which each Section 3 becomes another that passes its rules, with other Sections 5, 6
 /// and 7 that pass theirs for its number of points, is accepted, where it is not too long. It has as many
 /// fields. Each field has the new Section 3, the Sections 5, 6 and 7 of its part, hence their column, and its
 /// Sections 1, 2 and 4 as they were.

@@ -87,8 +87,8 @@ impl<'a> Message<'a> {
     }
 
     /// The section with this number, 1 to 7, that is in force for a field, counted from 1: the last one
-    /// that stands before the end of the field. Only Section 2 may be absent. No row of the profile
-    /// refuses the sections of a field, so each has the octets that these rows ask for.
+    /// that stands before the end of the field. Only Section 2 may be absent. No rule of the profile
+    /// refuses the sections of a field, so each has the octets that these rules ask for.
     pub fn part(&self, field: u32, section: u8) -> Option<Section<'a>>
         requires first { 1 ≤ field }
         requires last { field ≤ field_count self.now }

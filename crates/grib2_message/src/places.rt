@@ -32,11 +32,11 @@ impl Places {
         }
     }
 
-    /// Goes past the next section, where no row refuses its contents.
+    /// Goes past the next section, where no rule refuses its contents.
     ///
     /// # Errors
     ///
-    /// The first row of its contents that fails, or there is no memory.
+    /// The first rule of its contents that fails, or there is no memory.
     pub fn go_past(&mut self, alloc: Global, section: &Section<'_>) -> Result<(), ReadFault>
         requires comes { (message : List ℕ) × (before : List Placed) × HasPlaces message before self.old
             × Comes message before section.now.number section.now.start section.now.octets.now }

@@ -107,8 +107,8 @@ impl<'a> ReadableMessage<'a> {
     }
 
     /// The section with this number, 1 to 7, that is in force for a field, counted from 1: the last one
-    /// that stands before the end of the field. Only Section 2 may be absent. No row of the profile
-    /// refuses the sections of a field, so each has the octets that these rows ask for.
+    /// that stands before the end of the field. Only Section 2 may be absent. No rule of the profile
+    /// refuses the sections of a field, so each has the octets that these rules ask for.
     pub fn part(&self, field: u32, section: u8) -> Option<Section<'a>>
         requires first { 1 ≤ field }
         requires last { field ≤ field_count self.now }
@@ -195,7 +195,7 @@ impl<'a> ReadableMessage<'a> {
 
     /// The message with other Sections 5, 6 and 7, one part for each field in their order. All other
     /// sections are copied octet for octet, and the total length is renewed. The parts are put in as they
-    /// are: where each states its length and its number and passes its rows, the message is accepted.
+    /// are: where each states its length and its number and passes its rules, the message is accepted.
     /// The length is known before any memory is taken.
     ///
     /// # Errors
@@ -214,7 +214,7 @@ impl<'a> ReadableMessage<'a> {
 
     /// The message with another grid and other Sections 5, 6 and 7, one part for each field in their order.
     /// All other sections are copied octet for octet, and the total length is renewed. Sections are put in
-    /// as they are: where each states its length and its number and passes its rows, the message is
+    /// as they are: where each states its length and its number and passes its rules, the message is
     /// accepted. The length is known before any memory is taken.
     ///
     /// # Errors

@@ -1,8 +1,8 @@
 //! Reading a message.
 
 ghost use Rattle.std.specs.Prelude.{◌≡◌, ◌≤◌, length, take, None, MatchResult};
-ghost use Rattle.grib_base.specs.Rows.{first_fault};
-ghost use Rattle.grib2_sections.specs.Head.{indicator, edition, head_rows, total_length};
+ghost use Rattle.grib_base.specs.Rules.{first_fault};
+ghost use Rattle.grib2_sections.specs.Head.{indicator, edition, head_rules, total_length};
 ghost use Rattle.grib2_sections.specs.Verdict.{Accepted};
 ghost use Rattle.grib2_message.specs.Acceptance.{verdict_under};
 ghost use Rattle.grib2_message.specs.Fields.{field_count};
@@ -21,7 +21,7 @@ use std::alloc::Global;
 ///
 /// # Errors
 ///
-/// The first row of the profile that fails, or there is no memory.
+/// The first rule of the profile that fails, or there is no memory.
 pub fn read_message<'a>(
     alloc: Global,
     profile: Profile,
@@ -48,7 +48,7 @@ fn read_fields(
 ) -> Result<Vec<Places>, ReadFault>
     requires indicated { take 4 octets.now ≡ indicator }
     requires edition { edition octets.now ≡ 2 }
-    requires begun { first_fault (head_rows octets.now) ≡ None }
+    requires begun { first_fault (head_rules octets.now) ≡ None }
     requires total { total ≡ total_length octets.now }
     ensures { MatchResult result
         (λ fields. (verdict_under profile octets.now ≡ Accepted total)

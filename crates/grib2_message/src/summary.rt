@@ -1,16 +1,16 @@
 //! What describes a field: the numbers that its line of a list has.
 
 ghost use Rattle.std.specs.Prelude.{◌≡◌, ◌≢◌, ◌+◌, ◌≤◌, ℕ, false, List, [], ◌∷◌, Some, None, length};
-ghost use Rattle.grib_base.specs.Rows.{first_fault_at};
+ghost use Rattle.grib_base.specs.Rules.{first_fault_at};
 ghost use Rattle.grib_base.specs.declared.profile.Profile.{Profile};
 ghost use Rattle.grib_bits.specs.Octets.{octets as number_at};
 ghost use Rattle.grib_packing.specs.Entries.{is_opaque_packing};
 ghost use Rattle.grib_packing.specs.Packing.{packing_template, value_count};
 ghost use Rattle.grib2_grids.specs.Grid.{grid_points, grid_template};
 ghost use Rattle.grib2_products.specs.Product.{product_template};
-ghost use Rattle.grib2_products.specs.Opaque as opaque_product;
+ghost use Rattle.grib2_sections.specs.Instant as instant;
 ghost use Rattle.grib2_sections.specs.Frame.{Placed, placed_at};
-ghost use Rattle.grib2_sections.specs.Identification.{identification_rows};
+ghost use Rattle.grib2_sections.specs.Identification.{identification_rules};
 ghost use Rattle.grib2_message.specs.Acceptance.{section_fault_under};
 ghost use Rattle.grib2_message.specs.Fields.{field_count, part_octets};
 ghost use Rattle.grib2_message.specs.Message.{AnyFieldPasses};
@@ -20,7 +20,7 @@ use crate::Message;
 use grib_base::Section;
 use grib_bits::{u8_at, u16_at, u32_at};
 use grib_packing::is_opaque;
-use grib2_products::instant_shift;
+use grib2_sections::instant_shift;
 use grib2_sections::{Identification, read_identification};
 
 /// What describes a field of a message of edition 2 (WMO-No. 306, Volume I.2, FM 92 GRIB edition 2): octet
@@ -102,7 +102,7 @@ impl FieldSummary {
         }
     }
 
-    /// What describes a field after the next section, which no row refused.
+    /// What describes a field after the next section, which no rule refused.
     pub fn with_section(self, section: &Section<'_>) -> FieldSummary
         requires accepted { (profile : Profile) × (before : List Placed) × (section_fault_under profile before
             (placed_at section.now.start section.now.octets.now) ≡ None) }
@@ -120,7 +120,7 @@ impl FieldSummary {
 
     /// With the numbers of this Section 1.
     fn with_identification(self, section: &Section<'_>) -> FieldSummary
-        requires accepted { first_fault_at section.now.start (identification_rows section.now.octets.now) ≡ None }
+        requires accepted { first_fault_at section.now.start (identification_rules section.now.octets.now) ≡ None }
         ensures { result ≡ record self { identification = identification_of section.now.octets.now } }
     {
         match read_identification(section) {
@@ -147,7 +147,7 @@ impl FieldSummary {
     /// With the numbers of this Section 4.
     fn with_product(self, octets: &[u8]) -> FieldSummary
         requires least { 11 ≤ length octets.now }
-        requires instant { (shift : ℕ) → opaque_product.instant_shift (product_template octets.now) ≡ Some shift → 34 + shift ≤ length octets.now }
+        requires instant { (shift : ℕ) → instant.instant_shift (product_template octets.now) ≡ Some shift → 34 + shift ≤ length octets.now }
         ensures { result ≡ record self {
           product = product_template octets.now;
           category = number_at octets.now 10 10;

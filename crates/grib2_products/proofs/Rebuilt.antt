@@ -4,10 +4,10 @@ use Rattle.std.proofs.lemmas.List.{length-append}
 use Rattle.std.specs.Prelude.{None}
 use Rattle.grib_bits.specs.Listed.{numbers_at, numbers_octets}
 use Rattle.grib_bits.proofs.Listed.{length-numbers_octets, numbers_at-behind}
-use Rattle.grib_base.specs.Rows.{first_fault}
+use Rattle.grib_base.specs.Rules.{first_fault}
 use Rattle.grib_base.proofs.Passing.{none_from_passes}
 use Rattle.grib2_sections.specs.Template.{least_length, is_template}
-use Rattle.grib2_products.specs.Product.{product_rows, product_templates, product_template, product_length, template_length}
+use Rattle.grib2_products.specs.Product.{product_rules, product_templates, product_template, product_length, template_length}
 use Rattle.grib2_products.specs.Spelled.{IsSectionOf, SpelledTemplate, template_of, range_count, coordinate_list, written_length}
 use Rattle.grib2_products.specs.Writable.{IsWritable}
 use Rattle.grib2_products.specs.Written.{SpelledHeader, header, template_octets, section_of_product}
@@ -37,8 +37,8 @@ module _ (value : ProductSection) (w : IsWritable value) (fit : (k : ℕ) → k 
       let place : first ≡ length front + 1 = omega (arith, template_new) in
       numbers_at-behind front 4 value.coordinates first place (omega arith) fit ∙ ap (numbers_at new first 4) h.count_octets
 
-  -- no row of the profile refuses it
-  passes_new : first_fault (product_rows (section_of_product value) 1) ≡ None
+  -- no rule of the profile refuses it
+  passes_new : first_fault (product_rules (section_of_product value) 1) ≡ None
   passes_new =
       let new = section_of_product value in
       let size = length-section_of_product value w in
@@ -46,7 +46,7 @@ module _ (value : ProductSection) (w : IsWritable value) (fit : (k : ℕ) → k 
       let count = h.count_octets in
       let whole : product_length new ≤ length new = omega (arith, template_new) in
       let least : least_length product_templates (product_template new) ≤ length new = omega (arith, template_new) in
-      none_from_passes (product_rows new 1) (
+      none_from_passes (product_rules new 1) (
         le-ltb (length new) 9 (omega arith),
         (
           refl,
@@ -68,7 +68,7 @@ module _ (value : ProductSection) (w : IsWritable value) (fit : (k : ℕ) → k 
           least = omega arith;
           number_stands = sym h.number_octets;
         };
-        rows = passes_new;
+        rules = passes_new;
         spelled = record {
           count = h.count_octets;
           template = h.template_octets;

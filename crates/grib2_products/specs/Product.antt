@@ -3,7 +3,7 @@
 use Rattle.std.specs.Prelude.{ℕ, ◌+◌, ◌*◌, not, cond, List, [], ◌∷◌, length, nat_lt, ◌==◌}
 use Rattle.grib_bits.specs.Octets.{octets}
 use Rattle.grib_base.specs.declared.fault.Reason.TheVariants.{SectionLength, FieldCount, ProductTemplate}
-use Rattle.grib_base.specs.Rows.{Row, row}
+use Rattle.grib_base.specs.Rules.{Rule, rule}
 use Rattle.grib2_sections.specs.Template.{Template, template, is_template, least_length}
 
 -- the product templates of the profile, each with its least length in octets
@@ -29,14 +29,14 @@ template_length s = least_length product_templates (product_template s) + 12 * t
 abbrev pub product_length : List ℕ → ℕ
 product_length s = template_length s + 4 * coordinate_count s
 
--- rows S4.1 to S4.5, for the n-th Section 4 of its message; for n = 1 the row FieldCount never fails
-abbrev pub product_rows : List ℕ → ℕ → List Row
-product_rows s n =
+-- rules S4.1 to S4.5, for the n-th Section 4 of its message; for n = 1 the rule FieldCount never fails
+abbrev pub product_rules : List ℕ → ℕ → List Rule
+product_rules s n =
     let l = length s in
     let t = product_template s in
-    row (nat_lt l 9) 1 SectionLength l  -- S4.1
-    ∷ row (n == 4097) 1 FieldCount 4097  -- S4.2
-    ∷ row (not (is_template product_templates t)) 8 ProductTemplate t  -- S4.3
-    ∷ row (nat_lt l (least_length product_templates t)) 1 SectionLength l  -- S4.4
-    ∷ row (nat_lt l (product_length s)) 1 SectionLength l  -- S4.5
+    rule (nat_lt l 9) 1 SectionLength l  -- S4.1
+    ∷ rule (n == 4097) 1 FieldCount 4097  -- S4.2
+    ∷ rule (not (is_template product_templates t)) 8 ProductTemplate t  -- S4.3
+    ∷ rule (nat_lt l (least_length product_templates t)) 1 SectionLength l  -- S4.4
+    ∷ rule (nat_lt l (product_length s)) 1 SectionLength l  -- S4.5
     ∷ []

@@ -4,9 +4,9 @@ use Rattle.std.specs.Prelude.{◌≡◌, ℕ, ◌+◌, ◌*◌, ◌<◌, List, A
 use Rattle.std.specs.List.{range_with_len}
 use Rattle.grib_bits.specs.Octets.{octets, StatesItself}
 use Rattle.grib_bits.specs.Listed.{numbers_at}
-use Rattle.grib_base.specs.Rows.{first_fault}
+use Rattle.grib_base.specs.Rules.{first_fault}
 use Rattle.grib2_sections.specs.Template.{least_length}
-use Rattle.grib2_products.specs.Product.{product_rows, product_templates, template_length, coordinate_count}
+use Rattle.grib2_products.specs.Product.{product_rules, product_templates, template_length, coordinate_count}
 use Rattle.grib2_products.specs.declared.templates.Instant.{Instant}
 use Rattle.grib2_products.specs.declared.templates.Ensemble.{Ensemble}
 use Rattle.grib2_products.specs.declared.templates.Interval.{Interval}
@@ -96,11 +96,11 @@ pub record Spelled (value : ProductSection) (s : List ℕ) : Type 0 where
   pub product : SpelledTemplate value.product s
   pub coordinates : value.coordinates ≡ coordinate_list s
 
--- Octets that are a Section 4 which no row of the profile refuses, and of which the value has the numbers.
+-- Octets that are a Section 4 which no rule of the profile refuses, and of which the value has the numbers.
 pub record IsSectionOf (value : ProductSection) (s : List ℕ) : Type 0 where
   pub small : All (λ octet. octet < 256) s
   pub itself : StatesItself 4 s
-  pub rows : first_fault (product_rows s 1) ≡ None
+  pub rules : first_fault (product_rules s 1) ≡ None
   pub spelled : Spelled value s
 
 -- how many time ranges a product has

@@ -1,4 +1,4 @@
--- What the rows of Section 4 tell of a section's length.
+-- What the rules of Section 4 tell of a section's length.
 use Rattle.std.specs.Prelude.{◌≡◌, ℕ, ◌≤◌, true, List, length}
 use Rattle.grib2_sections.specs.Template.{is_template}
 use Rattle.grib2_products.specs.Product.{product_templates, product_template, product_length}

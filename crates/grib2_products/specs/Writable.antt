@@ -1,4 +1,4 @@
--- Which values of Section 4 can be written: those that a section has which no row of the profile refuses.
+-- Which values of Section 4 can be written: those that a section has which no rule of the profile refuses.
 use Rattle.std.specs.Prelude.{◌≡◌, ◌<◌, length}
 use Rattle.grib2_products.specs.declared.product.Product.{Product}
 use Rattle.grib2_products.specs.declared.product.Product.TheVariants as product

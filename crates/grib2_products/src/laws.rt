@@ -2,8 +2,8 @@
 
 ghost use Rattle.std.specs.Prelude.{◌≡◌, ℕ, List, false, None};
 ghost use Rattle.grib_base.specs.declared.profile.Profile.TheVariants.{Stated, Open};
-ghost use Rattle.grib_base.specs.Rows.{first_fault};
-ghost use Rattle.grib2_products.specs.Opaque.{is_opaque_product, product_rows_under};
+ghost use Rattle.grib_base.specs.Rules.{first_fault};
+ghost use Rattle.grib2_products.specs.Opaque.{is_opaque_product, product_rules_under};
 ghost use Rattle.grib2_products.specs.Spelled.{Spelled, IsSectionOf};
 ghost use Rattle.grib2_products.specs.Writable.{IsWritable};
 ghost use Rattle.grib2_products.specs.declared.product.ProductSection.{ProductSection};
@@ -21,12 +21,12 @@ pub fn what_is_read_can_be_written()
 
 /// What the stated profile accepts, the open one accepts.
 pub fn the_open_profile_accepts_what_is_stated()
-    ensures { (s : List ℕ) (n : ℕ) → first_fault (product_rows_under Stated s n) ≡ None
-        → first_fault (product_rows_under Open s n) ≡ None }
+    ensures { (s : List ℕ) (n : ℕ) → first_fault (product_rules_under Stated s n) ≡ None
+        → first_fault (product_rules_under Open s n) ≡ None }
 {}
 
-/// Where the product is not opaque, both profiles have the same rows.
+/// Where the product is not opaque, both profiles have the same rules.
 pub fn profiles_differ_in_opaque_products_alone()
     ensures { (s : List ℕ) (n : ℕ) → is_opaque_product s ≡ false
-        → product_rows_under Open s n ≡ product_rows_under Stated s n }
+        → product_rules_under Open s n ≡ product_rules_under Stated s n }
 {}

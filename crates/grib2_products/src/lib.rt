@@ -6,14 +6,14 @@ mod lists;
 mod opaque;
 mod product;
 mod reading;
-mod rows;
+mod rules;
 mod templates;
 mod writing;
 
 pub use grib_base::ReadFault as ProductFault;
-pub use opaque::{check_product_under, instant_shift, is_opaque_product};
+pub use opaque::{check_product_under, is_opaque_product};
 pub use product::{Product, ProductSection};
 pub use reading::{product_of, read_product};
-pub use rows::check_product;
+pub use rules::check_product;
 pub use templates::{Ensemble, Instant, Interval, Spec};
 pub use writing::write_product;

@@ -6,7 +6,7 @@ ghost use Rattle.grib2_products.specs.Whole.{IsWhole};
 ghost use Rattle.grib2_products.specs.Spelled.{spec_at, specs_at, coordinate_list};
 
 use crate::Spec;
-use crate::rows::coordinate_start;
+use crate::rules::coordinate_start;
 use grib_bits::{read_list, u8_at, u16_at, u32_at};
 use std::alloc::{AllocError, Global};
 

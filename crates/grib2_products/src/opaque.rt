@@ -2,13 +2,14 @@
 
 ghost use Rattle.std.specs.Prelude.{◌≡◌, ◌≤◌, length, Some, None, MatchResult};
 ghost use Rattle.grib_base.specs.declared.profile.Profile.TheVariants.{Open};
-ghost use Rattle.grib_base.specs.Rows.{first_fault_at};
+ghost use Rattle.grib_base.specs.Rules.{first_fault_at};
 ghost use Rattle.grib2_products.specs.Opaque as opaque;
-ghost use Rattle.grib2_products.specs.Opaque.{product_rows_under};
+ghost use Rattle.grib2_products.specs.Opaque.{product_rules_under};
 
-use crate::rows::{check_product, least_length};
+use crate::rules::{check_product, least_length};
 use grib_base::{Fault, Profile, Reason, Section};
 use grib_bits::u16_at;
+use grib2_sections::instant_shift;
 
 /// Whether a section has an opaque product: one by a template that is not stated.
 pub fn is_opaque_product(octets: &[u8]) -> bool
@@ -16,19 +17,6 @@ pub fn is_opaque_product(octets: &[u8]) -> bool
     ensures { result ≡ opaque.is_opaque_product octets.now }
 {
     least_length(u16_at(octets, 8)).is_none()
-}
-
-/// By how many octets what template 4.0 has in octets 12-34 is shifted in a section with this template: 0
-/// where it stands as there, 2 where a constituent type precedes it. None where the template does not have
-/// it, or is not known.
-pub fn instant_shift(template: u16) -> Option<usize>
-    ensures { result ≡ opaque.instant_shift template }
-{
-    match template {
-        40..=43 => Some(2),
-        0..=15 | 51 | 60 | 61 | 91 => Some(0),
-        _ => None,
-    }
 }
 
 /// The least length in octets of a section with this template that is not stated.
@@ -41,19 +29,19 @@ fn opaque_least(template: u16) -> usize
     }
 }
 
-/// Tries the rows of Section 4 under a profile. How many there are in a message is for the reader of the
+/// Tries the rules of Section 4 under a profile. How many there are in a message is for the reader of the
 /// message to see. No memory is taken.
 ///
 /// # Errors
 ///
-/// The first row of the profile that fails, as `check_product` tells it. Where any product is accepted and
+/// The first rule of the profile that fails, as `check_product` tells it. Where any product is accepted and
 /// this one is opaque, the section is too short for the octets that template 4.0 has too.
 pub fn check_product_under(profile: Profile, section: &Section<'_>) -> Result<(), Fault>
     ensures { MatchResult result
         (λ _. first_fault_at section.now.start
-        (product_rows_under profile section.now.octets.now 1) ≡ None)
+        (product_rules_under profile section.now.octets.now 1) ≡ None)
         (λ fault. first_fault_at section.now.start
-        (product_rows_under profile section.now.octets.now 1) ≡ Some fault) }
+        (product_rules_under profile section.now.octets.now 1) ≡ Some fault) }
 {
     match profile {
         Profile::Stated => check_product(section),
@@ -61,13 +49,13 @@ pub fn check_product_under(profile: Profile, section: &Section<'_>) -> Result<()
     }
 }
 
-/// Tries the rows of Section 4 where any product is accepted.
+/// Tries the rules of Section 4 where any product is accepted.
 fn check_any_product(section: &Section<'_>) -> Result<(), Fault>
     ensures { MatchResult result
         (λ _. first_fault_at section.now.start
-        (product_rows_under Open section.now.octets.now 1) ≡ None)
+        (product_rules_under Open section.now.octets.now 1) ≡ None)
         (λ fault. first_fault_at section.now.start
-        (product_rows_under Open section.now.octets.now 1) ≡ Some fault) }
+        (product_rules_under Open section.now.octets.now 1) ≡ Some fault) }
 {
     let octets = section.octets;
     let length = octets.len();

@@ -2,14 +2,14 @@
 
 ghost use Rattle.std.specs.Prelude.{◌≡◌, ◌≢◌, ◌+◌, ◌*◌, ◌≤◌, length, Some, None, Err, MatchResult, IfOk, IsOk};
 ghost use Rattle.grib_bits.specs.Octets.{octets as octets_of};
-ghost use Rattle.grib_base.specs.Rows.{first_fault_at};
-ghost use Rattle.grib2_products.specs.Product.{product_rows, coordinate_count, time_ranges};
+ghost use Rattle.grib_base.specs.Rules.{first_fault_at};
+ghost use Rattle.grib2_products.specs.Product.{product_rules, coordinate_count, time_ranges};
 ghost use Rattle.grib2_products.specs.Whole.{IsWhole};
 ghost use Rattle.grib_base.specs.Faults.{IsReadFault};
 ghost use Rattle.grib2_products.specs.Spelled.{Spelled, SpelledTemplate, template_of, SpelledInstant, SpelledEnsemble, SpelledInterval};
 
 use crate::lists::{read_coordinates, read_specs};
-use crate::rows::check_product;
+use crate::rules::check_product;
 use crate::{Ensemble, Instant, Interval, Product, ProductSection};
 use grib_base::{List, ReadFault, Section};
 use grib_bits::{u8_at, u16_at, u32_at};
@@ -19,13 +19,13 @@ use std::alloc::{AllocError, Global};
 ///
 /// # Errors
 ///
-/// The first row of the profile that fails, as `check_product` tells it. Or there is no memory for the
+/// The first rule of the profile that fails, as `check_product` tells it. Or there is no memory for the
 /// time ranges or the coordinate values, where there are any.
 pub fn read_product(alloc: Global, section: &Section<'_>) -> Result<ProductSection, ReadFault>
-    ensures rows { MatchResult result
-        (λ value. (first_fault_at section.now.start (product_rows section.now.octets.now 1) ≡ None)
+    ensures rules { MatchResult result
+        (λ value. (first_fault_at section.now.start (product_rules section.now.octets.now 1) ≡ None)
         × Spelled value section.now.octets.now)
-        (IsReadFault (first_fault_at section.now.start (product_rows section.now.octets.now 1))) }
+        (IsReadFault (first_fault_at section.now.start (product_rules section.now.octets.now 1))) }
     ensures memory { time_ranges section.now.octets.now ≡ 0
         → coordinate_count section.now.octets.now ≡ 0 → result ≢ Err ReadFault.Memory }
 {
@@ -33,7 +33,7 @@ pub fn read_product(alloc: Global, section: &Section<'_>) -> Result<ProductSecti
     Ok(product_of(alloc, section.octets)?)
 }
 
-/// What a Section 4 says that no row of the profile refuses.
+/// What a Section 4 says that no rule of the profile refuses.
 ///
 /// # Errors
 ///

@@ -3,7 +3,7 @@ use Rattle.std.proofs.Common.{◌≡◌, ℕ, ◌+◌, ◌-◌, ◌<◌, ◌≤�
 use Rattle.std.proofs.lemmas.List.{drop-take, length-drop, length-take-le, get_or-drop}
 use Rattle.grib_base.specs.declared.fault.Fault.{Fault}
 use Rattle.grib_base.specs.declared.fault.Reason.TheVariants.{SectionLength, SectionOrder, Truncated}
-use Rattle.grib_base.specs.Rows.{refusal, choose}
+use Rattle.grib_base.specs.Rules.{refusal, choose}
 use Rattle.grib_bits.specs.Octets.{num_on, octets, StatesItself}
 use Rattle.grib_bits.proofs.OctetBits.{AreOctets}
 use Rattle.grib_bits.proofs.OctetNumbers.{big_number-octets}
@@ -17,9 +17,9 @@ octet_alone m first known counted within =
     let alone : get_or (drop (first - 1) m) 0 0 ≡ octets m first first = omega (arith, e) in
     sym place ∙ alone
 
--- ---- the rows of a frame
+-- ---- the rules of a frame
 
--- what comes after rows that do not refuse, and what they refuse
+-- what comes after rules that do not refuse, and what they refuse
 after_two : (a b : Bool) (fa fb : Fault) (later : Option Fault) → cond a (Some fa) (cond b (Some fb) None) ≡ None
     → cond a (Some fa) (cond b (Some fb) later) ≡ later
 after_two true b fa fb later e = cc
@@ -49,25 +49,25 @@ module _ (m : List ℕ) (at : Position) where
   abbrev number : ℕ
   number = octets m (at.place + 4) (at.place + 4)
 
-  -- the frame, by the tests of its rows
+  -- the frame, by the tests of its rules
   abbrev unsized : Bool
   unsized = nat_lt mark 5 || nat_lt at.total (at.place - 1 + mark + 4)
 
   abbrev misplaced : Bool
   misplaced = not (may_follow at.last number)
 
-  abbrev by_rows : Bool → Bool → Option Fault
-  by_rows cut short =
+  abbrev by_rules : Bool → Bool → Option Fault
+  by_rules cut short =
       cond cut (Some cut_off)
       (cond unsized (Some (refusal at.place SectionLength mark))
       (cond misplaced (Some (refusal (at.place + 4) SectionOrder number)) (cond short (Some cut_off) None)))
 
   pub frame_cut : length m < at.place + 4 → frame_fault m at ≡ Some cut_off
-  frame_cut short = ap (λ (b : Bool). by_rows b (nat_lt (length m) (at.place - 1 + mark))) (lt-ltb (length m) (at.place + 4) short)
+  frame_cut short = ap (λ (b : Bool). by_rules b (nat_lt (length m) (at.place - 1 + mark))) (lt-ltb (length m) (at.place + 4) short)
 
   module _ (there : at.place + 4 ≤ length m) where
-    frame_there : (short : Bool) → nat_lt (length m) (at.place - 1 + mark) ≡ short → frame_fault m at ≡ by_rows false short
-    frame_there short is = λ i. by_rows (le-ltb (length m) (at.place + 4) there i) (is i)
+    frame_there : (short : Bool) → nat_lt (length m) (at.place - 1 + mark) ≡ short → frame_fault m at ≡ by_rules false short
+    frame_there short is = λ i. by_rules (le-ltb (length m) (at.place + 4) there i) (is i)
 
     goes_on : (later : Option Fault) → opening_fault at mark number ≡ None
         → cond unsized (Some (refusal at.place SectionLength mark)) (cond misplaced (Some (refusal (at.place + 4) SectionOrder number)) later) ≡ later

@@ -4,7 +4,7 @@
 use Rattle.std.specs.Prelude.{ℕ, ◌+◌, not, cond, ◌&&◌, ◌||◌, List, [], ◌∷◌, length, nat_lt, ◌==◌}
 use Rattle.grib_bits.specs.Octets.{octets}
 use Rattle.grib_base.specs.declared.fault.Reason.TheVariants.{Truncated, Edition, TotalLength}
-use Rattle.grib_base.specs.Rows.{Row, row}
+use Rattle.grib_base.specs.Rules.{Rule, rule}
 use Rattle.grib_base.specs.declared.limits.TheConstants.{MOST_OCTETS}
 use Rattle.grib2_sections.specs.declared.indicator.Head.{Head}
 
@@ -28,18 +28,18 @@ total_length message = octets message 9 16
 abbrev pub total_length_1 : List ℕ → ℕ
 total_length_1 message = octets message 5 7
 
--- rows H1 to H5: the octets are those of the input from the message's first octet on
-abbrev pub head_rows : List ℕ → List Row
-head_rows message =
+-- rules H1 to H5: the octets are those of the input from the message's first octet on
+abbrev pub head_rules : List ℕ → List Rule
+head_rules message =
     let k = length message in
     let e = edition message in
     let total = total_length message in
     let total_1 = total_length_1 message in
-    row (nat_lt k 8) (k + 1) Truncated k  -- H1
-    ∷ row (not (e == 1) && not (e == 2)) 8 Edition e  -- H2
-    ∷ row (e == 2 && nat_lt k 16) (k + 1) Truncated k  -- H3
-    ∷ row (e == 2 && (nat_lt total 20 || nat_lt MOST_OCTETS total)) 9 TotalLength total  -- H4
-    ∷ row (e == 1 && nat_lt total_1 12) 5 TotalLength total_1  -- H5
+    rule (nat_lt k 8) (k + 1) Truncated k  -- H1
+    ∷ rule (not (e == 1) && not (e == 2)) 8 Edition e  -- H2
+    ∷ rule (e == 2 && nat_lt k 16) (k + 1) Truncated k  -- H3
+    ∷ rule (e == 2 && (nat_lt total 20 || nat_lt MOST_OCTETS total)) 9 TotalLength total  -- H4
+    ∷ rule (e == 1 && nat_lt total_1 12) 5 TotalLength total_1  -- H5
     ∷ []
 
 -- what Section 0 tells of a message of edition 1 or 2; edition 1 has no discipline, and here 0

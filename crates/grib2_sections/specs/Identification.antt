@@ -4,11 +4,11 @@ use Rattle.grib_bits.specs.Octets.{octets}
 use Rattle.grib_bits.specs.Encoding.{octets_of}
 use Rattle.grib2_sections.specs.declared.identification.Identification.{Identification}
 use Rattle.grib_base.specs.declared.fault.Reason.TheVariants.{SectionLength}
-use Rattle.grib_base.specs.Rows.{Row, row}
+use Rattle.grib_base.specs.Rules.{Rule, rule}
 
--- row S1.1
-abbrev pub identification_rows : List ℕ → List Row
-identification_rows s = row (nat_lt (length s) 21) 1 SectionLength (length s)  -- S1.1
+-- rule S1.1
+abbrev pub identification_rules : List ℕ → List Rule
+identification_rules s = rule (nat_lt (length s) 21) 1 SectionLength (length s)  -- S1.1
     ∷ []
 
 -- the value has the numbers of the section

@@ -1,4 +1,5 @@
 pub mod Template
+pub mod Instant
 pub mod Verdict
 pub mod Head
 pub mod Frame

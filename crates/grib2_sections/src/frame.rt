@@ -65,7 +65,7 @@ impl Frame {
     }
 
     /// The next section of the message that begins with these octets, which may go on past its end,
-    /// or nothing at the End Section. A refusal is that of the first row of the profile that fails:
+    /// or nothing at the End Section. A refusal is that of the first rule of the profile that fails:
     /// the octets end too early, a section may not stand there, or a length disagrees with the
     /// total. It and the End Section leave the frame as it was.
     pub fn next<'a>(&mut self, octets: &'a [u8]) -> Result<Option<Section<'a>>, Fault>
@@ -96,7 +96,7 @@ impl Frame {
     }
 
     /// Whether these four octets, which stand here, are the End Section. A refusal is that of the
-    /// first row that fails: an End Section may not stand here, or another has to.
+    /// first rule that fails: an End Section may not stand here, or another has to.
     pub fn ends(&self, mark: u32) -> Result<bool, Fault>
         ensures { MatchResult result
             (λ ends. (end_fault self.now mark ≡ None) × (ends ≡ (mark == 926365495)))
@@ -117,7 +117,7 @@ impl Frame {
     }
 
     /// Tries whether a section of this length, with this number, may stand here. A refusal is that of
-    /// the first row that fails.
+    /// the first rule that fails.
     pub fn opens(&self, length: u32, number: u8) -> Result<(), Fault>
         ensures { MatchResult result
             (λ _. (opening_fault self.now length number ≡ None) × (5 ≤ length) × (number ≤ 7)

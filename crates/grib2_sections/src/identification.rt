@@ -2,9 +2,9 @@
 
 ghost use Rattle.std.specs.Prelude.{◌≡◌, ◌%◌, ◌≤◌, length, Some, None, MatchResult};
 ghost use Rattle.grib_bits.specs.Octets.{StatesItself};
-ghost use Rattle.grib_base.specs.Rows.{first_fault_at};
+ghost use Rattle.grib_base.specs.Rules.{first_fault_at};
 ghost use Rattle.grib_bits.specs.Encoding.{AddsOctets};
-ghost use Rattle.grib2_sections.specs.Identification.{identification_rows, section_of_identification, Spelled};
+ghost use Rattle.grib2_sections.specs.Identification.{identification_rules, section_of_identification, Spelled};
 
 use byteorder::{BigEndian, ByteOrder};
 use grib_base::{Fault, Reason, Section};
@@ -39,9 +39,9 @@ pub struct Identification {
 /// Reads Section 1. A refusal says that the section ends before octet 21.
 pub fn read_identification(section: &Section<'_>) -> Result<Identification, Fault>
     ensures { MatchResult result
-        (λ value. (first_fault_at section.now.start (identification_rows section.now.octets.now) ≡ None)
+        (λ value. (first_fault_at section.now.start (identification_rules section.now.octets.now) ≡ None)
         × Spelled value section.now.octets.now)
-        (λ fault. first_fault_at section.now.start (identification_rows section.now.octets.now) ≡ Some fault) }
+        (λ fault. first_fault_at section.now.start (identification_rules section.now.octets.now) ≡ Some fault) }
 {
     let octets = section.octets;
     if octets.len() < 21 {

@@ -1,8 +1,8 @@
 //! Section 0, the indicator section.
 
 ghost use Rattle.std.specs.Prelude.{◌≡◌, take, Some, None, MatchResult};
-ghost use Rattle.grib_base.specs.Rows.{first_fault};
-ghost use Rattle.grib2_sections.specs.Head.{indicator, head_rows, head_of};
+ghost use Rattle.grib_base.specs.Rules.{first_fault};
+ghost use Rattle.grib2_sections.specs.Head.{indicator, head_rules, head_of};
 
 use crate::refusing::truncated;
 use byteorder::{BigEndian, ByteOrder};
@@ -23,13 +23,13 @@ pub struct Head {
 const LONGEST: u64 = 1 << 28;
 
 /// Reads Section 0 of the message that begins with these octets, which may go on past its end. A
-/// refusal is that of the first row of the profile that fails: the octets end too early, the
+/// refusal is that of the first rule of the profile that fails: the octets end too early, the
 /// edition is neither 1 nor 2, or the total length is no length of a message.
 pub fn read_head(octets: &[u8]) -> Result<Head, Fault>
     requires { take 4 octets.now ≡ indicator }
     ensures { MatchResult result
-        (λ head. (first_fault (head_rows octets.now) ≡ None) × (head ≡ head_of octets.now))
-        (λ fault. first_fault (head_rows octets.now) ≡ Some fault) }
+        (λ head. (first_fault (head_rules octets.now) ≡ None) × (head ≡ head_of octets.now))
+        (λ fault. first_fault (head_rules octets.now) ≡ Some fault) }
 {
     let present = octets.len() as u64;
     if present < 8 {

@@ -1,5 +1,5 @@
 -- The word of a value, by its parts.
-use Rattle.std.proofs.Common.{◌≡◌, ℕ, ◌^◌, ℤ, pos, ◌+ℤ◌, ◌-ℤ◌, ◌*ℤ◌, ◌≤ℤ◌, nat_abs, Result, Ok, Err, IfOk, sym, ap, ◌∙◌, arith}
+use Rattle.std.proofs.Common.{◌≡◌, ℕ, ◌^◌, ℤ, pos, ◌+ℤ◌, ◌-ℤ◌, ◌*ℤ◌, ◌≤ℤ◌, nat_abs, sym, ap, ◌∙◌, arith}
 use Rattle.std.proofs.lemmas.Int.{ints, clamps}
 use Rattle.std.specs.Int.{int_min}
 use Rattle.grib_dyadic.specs.Reference.{Binary, binary, two_to_difference}
@@ -12,10 +12,6 @@ use Rattle.grib_nearest.specs.Numbers.{word_of}
 use Rattle.grib_arrays.specs.declared.scale.ArrayScale.{ArrayScale}
 use Rattle.grib_arrays.specs.Scale.{IsScaleOf}
 use Rattle.grib_arrays.specs.Values.{value_word}
-
-pub if_ok : {T E : Type 0} (r : Result T E) (P Q : T → Type 0) → ((t : T) → P t → Q t) → IfOk r P → IfOk r Q
-if_ok (Ok t) P Q along p = along t p
-if_ok (Err e) P Q along p = tt
 
 -- the value with R and X * 2 ^ E as multiples of 2 ^ t
 abbrev value_by : Binary → ℤ → ℤ → ℤ → ℤ → Exact

@@ -1,4 +1,4 @@
 pub mod Reason
-pub mod Rows
+pub mod Rules
 pub mod Faults
 pub use Rattle.grib_bits.specs.Octets

@@ -2,7 +2,7 @@
 
 ghost use Rattle.std.specs.Prelude.{◌≡◌, Some};
 ghost use Rattle.grib_base.specs.Reason.{number_of, name_of, fault_text};
-ghost use Rattle.grib_base.specs.Rows.{refusal};
+ghost use Rattle.grib_base.specs.Rules.{refusal};
 ghost use Rattle.grib_base.specs.declared.fault.ReadFault.TheVariants.{Refused, Memory};
 
 use std::alloc::AllocError;
@@ -160,7 +160,7 @@ pub struct Refusal {
 /// Why something was not read: it is refused, or there is no memory for what was read.
 #[derive(Clone, Copy, Debug, PartialEq, Eq, Error)]
 pub enum ReadFault {
-    /// A row of the profile fails.
+    /// A rule of the profile fails.
     #[error("{0}")]
     Refused(Fault),
     /// There is no memory.

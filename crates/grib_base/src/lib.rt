@@ -1,4 +1,4 @@
-//! What all readers and writers of GRIB messages share: refusals and the rows that decide them, sections,
+//! What all readers and writers of GRIB messages share: refusals and the rules that decide them, sections,
 //! codes and lists.
 #![tactic(auto)]
 

@@ -7,7 +7,7 @@ use Rattle.grib_base.specs.declared.code.Code.{Code}
 use Rattle.grib_packing.specs.declared.layout.Layout.{Layout}
 use Rattle.grib_packing.specs.Groupings.{joined, runs, length_bits, width_of}
 use Rattle.grib_packing.specs.Packed.{reference_of, group_fields, group_parts}
-use Rattle.grib_packing.proofs.Bounds.{reference_bits-few, width_bits-few, widths_fit}
+use Rattle.grib_codes.proofs.Bounds.{reference_bits-few, width_bits-few, widths_fit}
 use Rattle.grib_packing.proofs.Fields.{padded_octets, length-padded8}
 use Rattle.grib_groups.specs.Encoding.{LaysOut}
 use Rattle.grib_groups.proofs.Back.{length-group, length-runs}

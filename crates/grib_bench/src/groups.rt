@@ -7,17 +7,18 @@
 //! - `no-numbers` and `no-groups`: there is room for the numbers or for the groups, and nothing is written.
 
 ghost use Rattle.std.specs.Prelude.{◌≡◌, ◌+◌, ◌*◌, ◌^◌, ◌<◌, ◌≤◌, length, All, IfOk};
-ghost use Rattle.grib_packing.specs.Words.{codes_of};
+ghost use Rattle.grib_codes.specs.Words.{codes_of};
 ghost use Rattle.grib_packing.specs.Groupings.{runs};
-ghost use Rattle.grib_packing.specs.Span.{IsTold};
+ghost use Rattle.grib_codes.specs.Span.{IsTold};
 ghost use Rattle.grib_groups.specs.Encoding.{AreMeasures, LaysOut};
 
 use crate::random::Random;
 use anyhow::{Context, Result, ensure};
 use grib_base::{Code, MOST_POINTS};
 use grib_bits::BitWriter;
+use grib_codes::{Codes, word_of};
 use grib_groups::{Layout, Measure, encode_groups, encode_measured_groups, measures_of};
-use grib_packing::{Codes, bit_length, word_of};
+use grib_packing::bit_length;
 use grib_split::fewest_lengths;
 use std::alloc::{AllocError, Global};
 use std::env::Args;

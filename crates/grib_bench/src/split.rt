@@ -4,12 +4,12 @@
 //! it has, and how many times its groups are chosen.
 
 ghost use Rattle.std.specs.Prelude.{◌≡◌, ◌+◌, ◌<◌, ◌≤◌, ◌^◌, length, vec_len, IfOk};
-ghost use Rattle.grib_packing.specs.Span.{IsBelow};
+ghost use Rattle.grib_codes.specs.Span.{IsBelow};
 
 use crate::random::Random;
 use anyhow::{Context, Result, ensure};
 use grib_base::{Code, MOST_POINTS};
-use grib_packing::{Codes, word_of};
+use grib_codes::{Codes, word_of};
 use grib_split::{Costs, least_choices};
 use std::alloc::{AllocError, Global};
 use std::env::Args;

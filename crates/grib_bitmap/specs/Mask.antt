@@ -5,7 +5,7 @@ use Rattle.std.specs.Prelude.{ℕ, ◌+◌, ◌*◌, Bool, true, not, cond, ◌&
 use Rattle.grib_bits.specs.Bits.{bits}
 use Rattle.grib_bits.specs.Octets.{octets}
 use Rattle.grib_base.specs.declared.fault.Reason.TheVariants.{SectionLength, BitmapIndicator, NoEarlierBitmap, BitmapSize, ValueCount}
-use Rattle.grib_base.specs.Rows.{Row, row}
+use Rattle.grib_base.specs.Rules.{Rule, rule}
 
 abbrev pub bitmap_indicator : List ℕ → ℕ
 bitmap_indicator s = octets s 6 6
@@ -24,18 +24,18 @@ mask_of s points earlier =
 abbrev pub present_count : List Bool → ℕ
 present_count mask = count_by (λ present. present) mask
 
--- rows S6.1 to S6.6, where the grid has this many points, Section 5 this many values, and `earlier` is the
+-- rules S6.1 to S6.6, where the grid has this many points, Section 5 this many values, and `earlier` is the
 -- mask of the last earlier Section 6 with the indicator 0
-abbrev pub bitmap_rows : List ℕ → ℕ → ℕ → Option (List Bool) → List Row
-bitmap_rows s points values earlier =
+abbrev pub bitmap_rules : List ℕ → ℕ → ℕ → Option (List Bool) → List Rule
+bitmap_rules s points values earlier =
     let l = length s in
     let indicator = bitmap_indicator s in
     let earlier_length = length (unwrap_or earlier []) in
     let present = present_count (mask_of s points earlier) in
-    row (nat_lt l 6) 1 SectionLength l  -- S6.1
-    ∷ row (nat_lt 0 indicator && nat_lt indicator 254) 6 BitmapIndicator indicator  -- S6.2
-    ∷ row (indicator == 254 && is_none earlier) 6 NoEarlierBitmap 254  -- S6.3
-    ∷ row (indicator == 0 && nat_lt (8 * l) (points + 48)) 1 BitmapSize l  -- S6.4
-    ∷ row (indicator == 254 && not (earlier_length == points)) 6 BitmapSize earlier_length  -- S6.5
-    ∷ row (not (present == values)) 6 ValueCount present  -- S6.6
+    rule (nat_lt l 6) 1 SectionLength l  -- S6.1
+    ∷ rule (nat_lt 0 indicator && nat_lt indicator 254) 6 BitmapIndicator indicator  -- S6.2
+    ∷ rule (indicator == 254 && is_none earlier) 6 NoEarlierBitmap 254  -- S6.3
+    ∷ rule (indicator == 0 && nat_lt (8 * l) (points + 48)) 1 BitmapSize l  -- S6.4
+    ∷ rule (indicator == 254 && not (earlier_length == points)) 6 BitmapSize earlier_length  -- S6.5
+    ∷ rule (not (present == values)) 6 ValueCount present  -- S6.6
     ∷ []

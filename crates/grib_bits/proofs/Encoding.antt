@@ -1,30 +1,18 @@
 -- Lemmas on numbers that are written as octets, and on what was written before and behind.
-use Rattle.std.proofs.Common.{◌≡◌, ℕ, zero, suc, ◌+◌, ◌-◌, ◌*◌, ◌/◌, ◌%◌, ◌^◌, ◌<◌, ◌≤◌, Bool, List, [], ◌∷◌, ◌++◌, length, take, drop, get_or, All, subst, take-append-drop, take-take, refl, sym, ap, ap₂, ◌∙◌, arith, append_assoc, pow-suc, div-one, mod-eq_of_lt}
+use Rattle.std.proofs.Common.{◌≡◌, ℕ, zero, suc, ◌+◌, ◌-◌, ◌*◌, ◌/◌, ◌%◌, ◌^◌, ◌<◌, ◌≤◌, Bool, List, [], ◌∷◌, ◌++◌, length, take, drop, get_or, All, subst, take-append-drop, take-take, refl, sym, ap, ap₂, ◌∙◌, arith, append_assoc, mod-eq_of_lt}
 use Rattle.std.proofs.lemmas.List.{length-append, append-nil, take_at, drop_at, drop-take, take_more, take_rest, take_all}
 use Rattle.std.proofs.lemmas.List.Elements.{All-nil, All-cons, All-append, All-from_get_or}
-use Rattle.std.proofs.lemmas.Nat.{pow-add, mod_below}
+use Rattle.std.proofs.lemmas.Nat.{mod_below}
 use Rattle.std.specs.Int.{byte_at}
 use Rattle.grib_bits.specs.Bits.{bits, bits_of, num}
 use Rattle.grib_bits.specs.Octets.{num_on, octet_list, octets, StatesItself}
 use Rattle.grib_bits.specs.Written.{Written}
 use Rattle.grib_bits.proofs.Numbers.{bits_of-add, bits_of-mod, num-bits_of}
-use Rattle.grib_bits.proofs.OctetBits.{length-bits, bits-append, num_on-bits, AreOctets}
+use Rattle.grib_bits.proofs.OctetBits.{length-bits, bits-append, num_on-bits, AreOctets, byte_at-pow}
+pub use Rattle.grib_bits.proofs.OctetBits.{pow_256}
 use Rattle.byteorder.specs.Endian.{big_number}
 use Rattle.grib_bits.proofs.OctetNumbers.{AreOctets-octet_list, length-octet_list, big_number-rest, bits_of-octets}
 use Rattle.grib_bits.specs.Encoding.{octets_of, section_of, AddsOctets}
-
--- 256 to the k is 2 to the 8 k
-pub pow_256 : (k : ℕ) → 256 ^ k ≡ 2 ^ (8 * k)
-pow_256 zero = refl
-pow_256 (suc k) =
-    let whole : 8 + 8 * k ≡ 8 * suc k = omega arith in
-    let power : 2 ^ (8 * suc k) ≡ 2 ^ 8 * 2 ^ (8 * k) = ap (λ (j : ℕ). 2 ^ j) (sym whole) ∙ pow-add 2 8 (8 * k) in
-    omega (arith, pow_256 k, pow-suc 256 k, power)
-
--- an octet of a number, counted from its end
-byte_at-pow : (k n : ℕ) → byte_at k n ≡ n / 2 ^ (8 * k) % 256
-byte_at-pow zero n = ap (λ (m : ℕ). m % 256) (sym (div-one n))
-byte_at-pow (suc k) n = ap (λ (m : ℕ). n / m % 256) (pow_256 (suc k))
 
 -- the octets of a number have its bits
 pub bits-octets_of : (k n : ℕ) → bits (octets_of k n) ≡ bits_of (8 * k) n
@@ -118,8 +106,8 @@ AddsOctets-same {before} {now} xs ys e h = subst (λ (zs : List ℕ). AddsOctets
 pub octets_of-one : (n : ℕ) → n < 256 → octets_of 1 n ≡ n ∷ []
 octets_of-one n fits = ap (λ (m : ℕ). m ∷ []) (mod-eq_of_lt fits)
 
-All-known : (xs : List ℕ) → AreOctets xs → All (λ (x : ℕ). x < 256) xs
-All-known xs known = All-from_get_or (λ (x : ℕ). x < 256) xs 0 (λ i within. known i)
+pub All-from_AreOctets : (s : List ℕ) → AreOctets s → All (λ (x : ℕ). x < 256) s
+All-from_AreOctets s known = All-from_get_or (λ (x : ℕ). x < 256) s 0 (λ i below. known i)
 
 -- n octets of a section that `put` wrote as the number that was read there
 pub written_list : (before now : Written) (s : List ℕ) (first last n width value : ℕ) → AreOctets s → 1 ≤ first → first + n ≡ last + 1 → last ≤ length s
@@ -127,7 +115,7 @@ pub written_list : (before now : Written) (s : List ℕ) (first last n width val
     → now.bits ≡ before.bits ++ bits_of width value → now.spare + width ≡ before.spare → AddsOctets before now (octet_list s first last)
 written_list before now s first last n width value known counted count within is_width is_value is_bits is_spare =
     let same : value ≡ octets s first last = is_value ∙ big_number-rest s first last n known counted count within in record {
-      small = All-known (octet_list s first last) (AreOctets-octet_list s first last known);
+      small = All-from_AreOctets (octet_list s first last) (AreOctets-octet_list s first last known);
       bits = is_bits ∙ ap (λ (v : ℕ). before.bits ++ bits_of width v) same
           ∙ ap (λ (xs : List Bool). before.bits ++ xs) (bits_of-octets s first last n known counted count within width is_width);
       spare = omega (arith, length-octet_list s first last n known counted count within);

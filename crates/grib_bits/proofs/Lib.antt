@@ -1,3 +1,5 @@
+pub mod Logic
+pub mod Arithmetic
 pub mod Fields
 pub mod Numbers
 pub mod OctetBits

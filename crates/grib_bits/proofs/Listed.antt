@@ -3,15 +3,16 @@ use Rattle.std.proofs.Common.{◌≡◌, ℕ, zero, suc, ◌+◌, ◌-◌, ◌*�
 use Rattle.std.proofs.Math.Nat.{mul-le-mul_right}
 use Rattle.std.proofs.lemmas.Bool.{cases_lt}
 use Rattle.std.proofs.lemmas.List.{length-append, append-nil, take_more, get_or_past}
-use Rattle.std.proofs.lemmas.List.Elements.{All-get_or, All-from_get_or}
+use Rattle.std.proofs.lemmas.List.Elements.{All-get_or}
 use Rattle.std.proofs.lemmas.List.FromFn.{map-range_with_len_more, length-map-range_with_len, get_or-map-range_with_len, fill_by_all}
 use Rattle.std.specs.List.{range_with_len}
 use Rattle.grib_bits.specs.Octets.{octets}
 use Rattle.grib_bits.specs.Encoding.{octets_of}
 use Rattle.grib_bits.specs.Listed.{number_at, numbers_at, numbers_octets}
-use Rattle.grib_bits.proofs.OctetBits.{AreOctets}
+use Rattle.grib_bits.proofs.OctetBits.{AreOctets, pow_256}
 use Rattle.grib_bits.proofs.OctetNumbers.{octets-lt}
-use Rattle.grib_bits.proofs.Encoding.{pow_256, length-octets_of, octets-within, num_on-octets_of}
+use Rattle.grib_bits.proofs.Encoding.{length-octets_of, octets-within, num_on-octets_of}
+pub use Rattle.grib_bits.proofs.Encoding.{All-from_AreOctets}
 
 -- ---- octets below 256, said in two ways
 
@@ -20,9 +21,6 @@ AreOctets-from_All s h i = elim (cases_lt i (length s)) [
   | inl before ↦ All-get_or (λ (x : ℕ). x < 256) s i 0 before h
   | inr after ↦ subst (λ (x : ℕ). x < 256) (sym (get_or_past s i 0 after)) (omega arith)
 ]
-
-pub All-from_AreOctets : (s : List ℕ) → AreOctets s → All (λ (x : ℕ). x < 256) s
-All-from_AreOctets s known = All-from_get_or (λ (x : ℕ). x < 256) s 0 (λ i below. known i)
 
 -- ---- lists that are made by an index
 

@@ -32,7 +32,7 @@ drop-bits k xs h =
     ap (drop (8 * k)) parts ∙ drop_at _ _ (8 * k) (length-bits (take k xs) ∙ ap (λ (n : ℕ). 8 * n) (length-take-le k xs h))
 
 -- 256 to the k is 2 to the 8 k
-pow_256 : (k : ℕ) → 256 ^ k ≡ 2 ^ (8 * k)
+pub pow_256 : (k : ℕ) → 256 ^ k ≡ 2 ^ (8 * k)
 pow_256 zero = refl
 pow_256 (suc k) =
     let whole : 8 + 8 * k ≡ 8 * suc k = omega arith in
@@ -71,7 +71,7 @@ big_from-bits i (suc n) xs h within =
     ap (λ (m : ℕ). get_or xs i 0 * 256 ^ n + m) rest ∙ sym first ∙ ap (λ (ys : List ℕ). num (bits (take (suc n) ys))) (sym next)
 
 -- an octet of a number, counted from its end
-byte_at-pow : (k n : ℕ) → byte_at k n ≡ n / 2 ^ (8 * k) % 256
+pub byte_at-pow : (k n : ℕ) → byte_at k n ≡ n / 2 ^ (8 * k) % 256
 byte_at-pow zero n = ap (λ (m : ℕ). m % 256) (sym (div-one n))
 byte_at-pow (suc k) n = ap (λ (m : ℕ). n / m % 256) (pow_256 (suc k))
 

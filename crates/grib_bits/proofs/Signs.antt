@@ -1,11 +1,12 @@
 -- Lemmas on numbers with a sign before their magnitude, and on their words of 64 bits.
-use Rattle.std.proofs.Common.{◌≡◌, ℕ, suc, ◌+◌, ◌-◌, ◌*◌, ◌/◌, ◌%◌, ◌^◌, ◌<◌, ◌≤◌, Bool, true, false, eqb, ◌∷◌, ℤ, pos, negsuc, neg_ℤ, ◌-ℤ◌, nat_abs, refl, sym, ap, ◌∙◌, arith, mod-eq_of_lt, one-mul, w64, to_z, of_z, SFits, to_z-of_z, pow-suc, subst, pow_mono, ltb-true}
+use Rattle.std.proofs.Common.{◌≡◌, ℕ, suc, ◌+◌, ◌-◌, ◌*◌, ◌/◌, ◌%◌, ◌^◌, ◌<◌, ◌≤◌, Bool, true, false, eqb, List, [], ◌∷◌, length, ℤ, pos, negsuc, neg_ℤ, ◌-ℤ◌, nat_abs, refl, sym, ap, ◌∙◌, arith, mod-eq_of_lt, one-mul, w64, to_z, of_z, SFits, to_z-of_z, pow-suc, subst, pow_mono, ltb-true}
 use Rattle.std.proofs.Math.Nat.{div-eq_of_lt}
 use Rattle.std.proofs.lemmas.Int.{ints}
 use Rattle.std.proofs.lemmas.Nat.{shr_high, mod_low, one_shl}
 use lib.Signed.{lt_z}
-use Rattle.grib_bits.specs.Bits.{bits_of, signed}
-use Rattle.grib_bits.proofs.Numbers.{num-bits_of}
+use Rattle.grib_bits.specs.Bits.{bits_of, num, signed}
+use Rattle.grib_bits.proofs.Numbers.{num-bits_of, num-lt}
+use Rattle.grib_bits.proofs.Arithmetic.{nat_abs-neg}
 
 -- a number that leaves the sign clear is its magnitude
 pub signed-clear : (k n : ℕ) → n < 2 ^ k → signed (bits_of (suc k) n) ≡ pos n
@@ -82,3 +83,13 @@ pub natural_word : (z : ℤ) (n : ℕ) → SFits w64 z → n ≡ nat_abs (to_z w
 natural_word z n fits is above =
     let same = to_z-of_z fits in
     ap pos is ∙ natural _ above ∙ same
+
+-- the magnitude of a number of 32 bits with sign is below 2 ^ 31
+pub signed-small : (bs : List Bool) → length bs ≡ 32 → nat_abs (signed bs) < 2 ^ 31
+signed-small [] long = absurd (omega (arith, long))
+signed-small (false ∷ bs) long =
+    let size : length bs ≡ 31 = omega (arith, long) in
+    subst (λ (k : ℕ). num bs < 2 ^ k) size (num-lt bs)
+signed-small (true ∷ bs) long =
+    let size : length bs ≡ 31 = omega (arith, long) in
+    omega (arith, subst (λ (k : ℕ). num bs < 2 ^ k) size (num-lt bs), nat_abs-neg (num bs))

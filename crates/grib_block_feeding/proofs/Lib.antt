@@ -6,3 +6,5 @@ pub mod Alike
 pub mod Pieces
 pub mod Ahead
 pub mod Fed
+pub mod Accepting
+pub mod Values

@@ -1,3 +1,5 @@
 pub mod Pending
 pub mod Half
 pub mod Feeding
+pub mod Blocks
+pub mod Representation

@@ -5,7 +5,7 @@ use Rattle.std.proofs.lemmas.Bool.Decides.{nat_tests}
 use Rattle.std.proofs.lemmas.List.{length-append, map-append, length-map, length-take-le}
 use Rattle.std.proofs.lemmas.List.Elements.{All-cons, All-nil, All-append}
 use Rattle.grib_packing.specs.declared.column.Point.{Point}
-use Rattle.grib_mapped.specs.Mapped.{mapped}
+use Rattle.grib_coding.specs.Mapped.{mapped}
 use Rattle.grib_coding.specs.declared.coding.Coding.{Coding}
 use Rattle.grib_coding.specs.Coding.{greatest, is_mapped}
 use Rattle.grib_coding.specs.Numbers.{Told, Reference, Code, is_reference, told, told_after}

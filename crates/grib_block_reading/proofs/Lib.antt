@@ -1,3 +1,4 @@
+mod Blocks
 pub mod Places
 pub mod Fronts
 pub mod Spread

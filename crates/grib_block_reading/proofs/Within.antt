@@ -7,7 +7,7 @@ use Rattle.std.proofs.lemmas.List.{length-take-le}
 use Rattle.std.proofs.lemmas.List.Elements.{All-nil, All-cons, All-head, All-tail}
 use Rattle.grib_bits.specs.Bits.{num}
 use Rattle.grib_bits.proofs.Numbers.{num-lt}
-use Rattle.grib_mapped.specs.Mapped.{unmapped}
+use Rattle.grib_coding.specs.Mapped.{unmapped}
 use Rattle.grib_coding.specs.declared.coding.Coding.{Coding}
 use Rattle.grib_coding.specs.declared.fault.BlockFault.{BlockFault}
 use Rattle.grib_coding.specs.declared.fault.BlockFault.TheVariants.{Block}

@@ -1,12 +1,10 @@
--- An item that was taken.
-use Rattle.std.specs.Prelude.{◌≡◌, ℕ, ◌+◌, ◌-◌, ◌*◌, ◌%◌, ◌≤◌, Bool, ◌&&◌, ◌==◌, List, length, take, Option, Some, None}
+-- An item whose numbers were handed on.
+use Rattle.std.specs.Prelude.{◌≡◌, ℕ, ◌+◌, ◌-◌, ◌*◌, ◌%◌, ◌≤◌, Bool, ◌&&◌, ◌==◌, List, length, take, None}
 use Rattle.grib_packing.specs.declared.column.Point.{Point}
 use Rattle.grib_coding.specs.declared.coding.Coding.{Coding}
-use Rattle.grib_coding.specs.declared.fault.BlockFault.{BlockFault}
-use Rattle.grib_coding.specs.declared.fault.BlockFault.TheVariants.{Short}
 use Rattle.grib_coding.specs.Coding.{is_mapped}
 use Rattle.grib_coding.specs.Items.{covered}
-use Rattle.grib_coding.specs.Reading.{Front, Ended, Found, Coded, front_item, padded, item_fault, entries_of}
+use Rattle.grib_coding.specs.Reading.{Front, Coded, front_item, padded, item_fault, entries_of}
 use Rattle.grib_block_reading.specs.Kept.{IsKept}
 
 -- whether the item that begins with a block has a reference
@@ -17,11 +15,6 @@ with_reference c block = (block % c.interval == 0) && is_mapped c
 abbrev pub front_at : Coding → ℕ → List Bool → Front Coded
 front_at c block bits = front_item c (with_reference c block) (padded c (block % c.interval == 0) bits)
 
--- what is wrong with it
-abbrev pub outcome : Coding → ℕ → ℕ → Front Coded → Option BlockFault
-outcome c count block Ended = Some Short
-outcome c count block (Found coded rest) = item_fault c count block coded
-
 -- Nothing is wrong with an item, it covers so many blocks, and the points of the numbers that it tells were kept.
 pub record ItemPassed {S : Type 0} (kept : S → List Point → S → Type 0) (c : Coding) (count block : ℕ) (coded : Coded) (last : ℕ) (before : S) (blocks last_one : ℕ) (after : S) : Type 0 where
   pub no_fault : item_fault c count block coded ≡ None
@@ -29,9 +22,3 @@ pub record ItemPassed {S : Type 0} (kept : S → List Point → S → Type 0) (c
   pub inside : block % c.interval + blocks ≤ c.interval
   pub long : length (entries_of c (block % c.interval) coded) ≡ c.block * blocks
   pub kept_are : IsKept kept c (block * c.block) last (take (count - block * c.block) (entries_of c (block % c.interval) coded)) before last_one after
-
--- Such an item was at the front, and these bits are behind it.
-pub record ItemTaken {S : Type 0} (kept : S → List Point → S → Type 0) (c : Coding) (count block : ℕ) (front : Front Coded) (rest : List Bool) (last : ℕ) (before : S) (blocks last_one : ℕ) (after : S) : Type 0 where
-  pub coded : Coded
-  pub found : front ≡ Found coded rest
-  pub passed : ItemPassed kept c count block coded last before blocks last_one after

@@ -34,14 +34,6 @@ impl<'a> Model for BitsLeft<'a> {
 }
 
 impl<'a> BitsLeft<'a> {
-    /// All bits of `octets`.
-    pub fn of(octets: &'a [u8]) -> BitsLeft<'a>
-        requires { length octets.now < 2 ^ 32 }
-        ensures { result ≡ bits_in octets.now }
-    {
-        BitsLeft { octets, at: 0 }
-    }
-
     /// The bits of `octets` after the first `at` ones.
     #[inline]
     pub fn after(octets: &'a [u8], at: u64) -> BitsLeft<'a>

@@ -2,13 +2,13 @@
 
 ghost use Rattle.std.specs.Prelude.{◌≡◌, ℕ, ◌+◌, ◌++◌, ◌≤◌, true, false, length, map, replicate, cond, All};
 ghost use Rattle.grib_coding.specs.Reading.{IsWithin};
-ghost use Rattle.grib_mapped.specs.Mapped.{mapped as mapped_code};
+ghost use Rattle.grib_coding.specs.Mapped.{mapped as mapped_code};
 ghost use Rattle.grib_coding.specs.Coding.{greatest, is_mapped};
 ghost use Rattle.grib_coding.specs.Numbers.{Code};
 ghost use Rattle.grib_block_reading.specs.Kept.{IsKept, NoReference, StandsAt, point_of, reference_entries};
 
+use crate::unmapping::unmap;
 use grib_coding::Coding;
-use grib_mapped::unmap;
 use grib_packing::{Keeper, Point};
 
 /// What the numbers of values went to, and the last of them.

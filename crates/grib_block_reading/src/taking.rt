@@ -8,10 +8,10 @@ ghost use Rattle.grib_coding.specs.Reading.{item_fault, padded, skipped, IsWithi
 ghost use Rattle.grib_block_reading.specs.ItemRead.{IsOfKind, HasReference};
 ghost use Rattle.grib_coding.specs.Numbers.{Code};
 ghost use Rattle.grib_block_reading.specs.Kept.{IsKept, NoReference, StandsAt, reference_entries};
-ghost use Rattle.grib_block_reading.specs.Taking.{ItemTaken, ItemPassed, with_reference as has_reference, front_at, outcome};
+ghost use Rattle.grib_block_reading.specs.Taking.{ItemPassed, with_reference as has_reference};
 
 use crate::bits_left::BitsLeft;
-use crate::item::{Head, Kind, read_item};
+use crate::item::{Head, Kind};
 use crate::numbers::{Kept, keep_block, keep_zero_blocks};
 use grib_coding::{BlockFault, Coding};
 use grib_packing::Keeper;
@@ -24,33 +24,6 @@ pub struct ReadItem<K> {
     pub blocks: Result<u32, BlockFault>,
     /// What its numbers went to.
     pub kept: Kept<K>,
-}
-
-/// Takes the item whose first block is `block`, of `count` values.
-pub(crate) fn take_item<K: Keeper>(
-    bits: &mut BitsLeft<'_>,
-    coding: Coding,
-    count: u32,
-    block: u32,
-    codes: &mut [u64],
-    kept: Kept<K>,
-) -> ReadItem<K>
-    requires fits { Fits coding }
-    requires few { count ≤ 33554432 }
-    requires some { block * coding.block < count }
-    requires room { length codes.old ≡ coding.block }
-    requires last { kept.last ≤ greatest coding }
-    ensures { let front = front_at coding block bits.old in MatchResult result.blocks
-        (λ blocks. ItemTaken K.kept coding count block front bits.new kept.last kept.keeper blocks result.kept.last result.kept.keeper)
-        (λ fault. outcome coding count block front ≡ Some fault) }
-{
-    skip_padding(bits, coding, block);
-    let with_reference = is_referred(coding, block);
-    let codes = &mut codes[usize::from(with_reference)..];
-    let Some(head) = read_item(bits, coding, with_reference, codes) else {
-        return faulty(BlockFault::Short, kept);
-    };
-    take_read(head, coding, count, block, codes, kept)
 }
 
 /// Passes what may stand before the first item of an interval.

@@ -6,7 +6,8 @@ use Rattle.grib_bits.specs.Bits.{bits_of}
 use Rattle.grib_bits.specs.Written.{Written}
 use Rattle.grib_bits.proofs.Numbers.{length-bits_of, bits_of-zero, bits_of-add}
 use Rattle.grib_coding.specs.Items.{sequence, all_bits, pair_number}
-use Rattle.grib_block_writing.specs.Written.{AddsBits, Leaves, pair_numbers}
+use Rattle.grib_coding.specs.Written.{pair_numbers}
+use Rattle.grib_block_writing.specs.Steps.{AddsBits, Leaves}
 
 -- ---- all bits, part after part
 

@@ -19,12 +19,12 @@ use Rattle.grib_coding.specs.Numbers.{Told, Reference, Code}
 use Rattle.grib_coding.specs.Reading.{Front, Found, Coded, is_too_long, is_over, item_fault, value_fault, entries_of, entries_with, front_item, skipped, coded_of}
 use Rattle.grib_coding.proofs.Pairs.{pair_of-number}
 use Rattle.grib_coding.proofs.Fronts.{item_back, no_reference, some_reference}
-use Rattle.grib_choice.specs.declared.choice.Choice.{Choice}
-use Rattle.grib_choice.specs.declared.choice.Choice.TheVariants.{Plain, Second, Split}
-use Rattle.grib_choice.specs.Choices.{bits_as, high_sum, pair_sum, chosen, IsOption}
-use Rattle.grib_choice.proofs.Chosen.{chosen-least, wide}
-use Rattle.grib_choice.proofs.PairSums.{pair_sum-more}
-use Rattle.grib_block_writing.specs.Written.{coded_bits, chosen_item, item_as, skip_of, pair_numbers, highs, lows}
+use Rattle.grib_coding.specs.declared.choice.Choice.{Choice}
+use Rattle.grib_coding.specs.declared.choice.Choice.TheVariants.{Plain, Second, Split}
+use Rattle.grib_coding.specs.Choices.{bits_as, high_sum, pair_sum, chosen, IsOption}
+use Rattle.grib_block_writing.proofs.Chosen.{chosen-least, wide}
+use Rattle.grib_block_writing.proofs.PairSums.{pair_sum-more}
+use Rattle.grib_coding.specs.Written.{coded_bits, chosen_item, item_as, skip_of, pair_numbers, highs, lows}
 use Rattle.grib_block_writing.proofs.Options.{chosen-option}
 use Rattle.grib_block_writing.proofs.Heads.{all_below, below_power}
 use Rattle.grib_block_writing.proofs.Shapes.{told_block}

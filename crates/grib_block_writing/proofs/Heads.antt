@@ -11,7 +11,8 @@ use Rattle.grib_bits.proofs.Numbers.{bits_of-add, length-bits_of}
 use Rattle.grib_coding.specs.declared.coding.Coding.{Coding}
 use Rattle.grib_coding.specs.Coding.{identifier_width, greatest}
 use Rattle.grib_coding.specs.Items.{Run, Second, Split, Plain, sequence, all_bits}
-use Rattle.grib_block_writing.specs.Written.{AddsBits, Leaves, coded_bits, head_bits, reference_bits}
+use Rattle.grib_coding.specs.Written.{coded_bits, reference_bits}
+use Rattle.grib_block_writing.specs.Steps.{AddsBits, Leaves, head_bits}
 use Rattle.grib_block_writing.proofs.Adding.{both, same_bits, number_added}
 
 -- ---- two parts of all bits

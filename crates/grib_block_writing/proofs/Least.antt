@@ -7,11 +7,12 @@ use Rattle.std.proofs.lemmas.List.Sums.{sum_by-cons}
 use Rattle.std.proofs.lemmas.List.Elements.{All-head, All-tail}
 use Rattle.grib_coding.specs.declared.coding.Coding.{Coding}
 use Rattle.grib_coding.specs.Coding.{identifier_width}
-use Rattle.grib_choice.specs.declared.choice.Choice.{Choice}
-use Rattle.grib_choice.specs.Choices.{bits_as, chosen, IsOption}
-use Rattle.grib_choice.specs.Runs.{run_number}
-use Rattle.grib_choice.proofs.Chosen.{chosen-least}
-use Rattle.grib_block_writing.specs.Written.{coded_bits, chosen_item, item_as, skip_of, run_size, sizes_of}
+use Rattle.grib_coding.specs.declared.choice.Choice.{Choice}
+use Rattle.grib_coding.specs.Choices.{bits_as, chosen, IsOption}
+use Rattle.grib_coding.specs.Runs.{run_number}
+use Rattle.grib_block_writing.proofs.Chosen.{chosen-least}
+use Rattle.grib_coding.specs.Written.{coded_bits, chosen_item, item_as, skip_of}
+use Rattle.grib_block_writing.specs.Steps.{run_size, sizes_of}
 use Rattle.grib_block_writing.proofs.Lengths.{length-coded, skip_few}
 
 pub least_block : (c : Coding) (reference : Option ℕ) (codes : List ℕ) (choice : Choice) → length codes ≡ c.block → c.block % 2 ≡ 0 → 1 ≤ c.block

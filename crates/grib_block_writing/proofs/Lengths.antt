@@ -11,12 +11,13 @@ use Rattle.grib_coding.specs.declared.coding.Coding.{Coding}
 use Rattle.grib_coding.specs.Coding.{Fits, identifier_width}
 use Rattle.grib_coding.specs.Items.{Item, Run, sequence, all_bits, pair_number, Plain as APlain, Second as ASecond, Split as ASplit}
 use Rattle.grib_coding.specs.Numbers.{Told, Reference, Code}
-use Rattle.grib_choice.specs.declared.choice.Choice.{Choice}
-use Rattle.grib_choice.specs.declared.choice.Choice.TheVariants.{Plain, Second, Split}
-use Rattle.grib_choice.specs.Choices.{bits_as, high_sum, pair_sum, chosen}
-use Rattle.grib_choice.proofs.Chosen.{chosen-least}
-use Rattle.grib_block_writing.specs.Blocks.{codes_of, reference_of}
-use Rattle.grib_block_writing.specs.Written.{coded_bits, chosen_item, item_as, skip_of, pair_numbers, highs, lows, reference_bits, head_bits}
+use Rattle.grib_coding.specs.declared.choice.Choice.{Choice}
+use Rattle.grib_coding.specs.declared.choice.Choice.TheVariants.{Plain, Second, Split}
+use Rattle.grib_coding.specs.Choices.{bits_as, high_sum, pair_sum, chosen}
+use Rattle.grib_block_writing.proofs.Chosen.{chosen-least}
+use Rattle.grib_coding.specs.Blocks.{codes_of, reference_of}
+use Rattle.grib_coding.specs.Written.{coded_bits, chosen_item, item_as, skip_of, pair_numbers, highs, lows, reference_bits}
+use Rattle.grib_block_writing.specs.Steps.{head_bits}
 use Rattle.grib_block_writing.proofs.Adding.{length-sequence}
 use Rattle.grib_block_writing.proofs.Heads.{run_parts, second_parts, plain_parts, split_parts}
 

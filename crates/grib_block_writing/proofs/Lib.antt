@@ -1,3 +1,7 @@
+pub mod Walk
+pub mod PairSums
+pub mod Fewest
+pub mod Chosen
 pub mod Adding
 pub mod Heads
 pub mod Options

@@ -11,13 +11,13 @@ use mir.Val.{bool_byte}
 use Rattle.std.specs.Option.{is_some}
 use Rattle.grib_coding.specs.declared.coding.Coding.{Coding}
 use Rattle.grib_coding.specs.Coding.{identifier_width}
-use Rattle.grib_choice.specs.declared.choice.Choice.{Choice}
-use Rattle.grib_choice.specs.declared.choice.Choice.TheVariants.{Plain, Second, Split}
-use Rattle.grib_choice.specs.Choices.{bits_as, fewest_of, high_sum, pair_sum, chosen, IsOption}
+use Rattle.grib_coding.specs.declared.choice.Choice.{Choice}
+use Rattle.grib_coding.specs.declared.choice.Choice.TheVariants.{Plain, Second, Split}
+use Rattle.grib_coding.specs.Choices.{bits_as, fewest_of, high_sum, pair_sum, chosen, IsOption}
 use Rattle.grib_coding.specs.Items.{Item, Plain as AsPlain, Second as AsSecond, Split as AsSplit}
-use Rattle.grib_block_writing.specs.Written.{coded_bits, chosen_item, item_as, skip_of, pair_numbers, highs, lows}
-use Rattle.grib_choice.proofs.Chosen.{chosen-least}
-use Rattle.grib_choice.proofs.PairSums.{pair_sum-more}
+use Rattle.grib_coding.specs.Written.{coded_bits, chosen_item, item_as, skip_of, pair_numbers, highs, lows}
+use Rattle.grib_block_writing.proofs.Chosen.{chosen-least}
+use Rattle.grib_block_writing.proofs.PairSums.{pair_sum-more}
 
 -- one of two choices
 either : (P : Choice → Type 0) (bits : Choice → ℕ) (best choice : Choice) → P best → P choice → P (cond (nat_lt (bits choice) (bits best)) choice best)

@@ -13,9 +13,10 @@ use Rattle.grib_coding.specs.declared.fault.BlockFault.{BlockFault}
 use Rattle.grib_coding.specs.Items.{Item, Run, covered}
 use Rattle.grib_coding.specs.Numbers.{Told, Reference, Code, told_after}
 use Rattle.grib_coding.specs.Reading.{Front, Found, Coded, Decoded, decoded, read_as, ended_by, unless_ended, unless_fault, after_item, padded, item_fault, entries_of, front_item, items_from, is_over, skipped, behind as with_behind, coded_of}
-use Rattle.grib_choice.specs.Runs.{run_room, run_number}
-use Rattle.grib_block_writing.specs.Blocks.{all_told, pieces, blocks_of, block_at, code_of, codes_of, reference_of, is_zero, zero_blocks}
-use Rattle.grib_block_writing.specs.Written.{run_length, number_of, coded_bits, chosen_item, bits_from, skip_of, written}
+use Rattle.grib_coding.specs.Runs.{run_room, run_number}
+use Rattle.grib_coding.specs.Blocks.{all_told, pieces, blocks_of, code_of, codes_of, reference_of, is_zero, zero_blocks}
+use Rattle.grib_block_writing.specs.Steps.{block_at}
+use Rattle.grib_coding.specs.Written.{run_length, number_of, coded_bits, chosen_item, bits_from, skip_of, written}
 use Rattle.grib_block_writing.proofs.Shapes.{Shape, shape, told_block, reference_at, codes_at, piece_at, length-pieces, length-told, within_blocks, and-false}
 
 -- ---- one step of reading

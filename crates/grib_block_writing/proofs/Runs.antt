@@ -9,9 +9,11 @@ use Rattle.grib_coding.specs.Coding.{block_count}
 use Rattle.grib_coding.specs.Items.{Item, Run}
 use Rattle.grib_coding.specs.Numbers.{Told}
 use Rattle.grib_coding.specs.Reading.{Coded, coded_of}
-use Rattle.grib_choice.specs.Runs.{run_room, run_number}
-use Rattle.grib_block_writing.specs.Blocks.{all_told, blocks_of, block_at, codes_of, reference_of}
-use Rattle.grib_block_writing.specs.Written.{AddsBits, Leaves, run_length, number_of, first_item, chosen_item, items_of, coded_bits, bits_from, written}
+use Rattle.grib_coding.specs.Runs.{run_room, run_number}
+use Rattle.grib_coding.specs.Blocks.{all_told, blocks_of, codes_of, reference_of}
+use Rattle.grib_block_writing.specs.Steps.{block_at}
+use Rattle.grib_coding.specs.Written.{run_length, number_of, first_item, chosen_item, items_of, coded_bits, bits_from, written}
+use Rattle.grib_block_writing.specs.Steps.{AddsBits, Leaves}
 use Rattle.grib_block_writing.proofs.Shapes.{next_block, length-pieces}
 use Rattle.grib_block_writing.proofs.Adding.{begin, next, left-same}
 

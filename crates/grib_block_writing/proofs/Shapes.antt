@@ -7,11 +7,12 @@ use Rattle.std.proofs.lemmas.Nat.{mod-mul-add, mul-add-lt, div-add-mod'}
 use Rattle.std.proofs.lemmas.Bool.{cases_lt, cases_eq, cases_Bool, eq-eqb, ne_eqb}
 use Rattle.std.proofs.lemmas.Bool.Decides.{nat_tests}
 use Rattle.std.proofs.lemmas.List.{drop_more, drop-drop, take_all, take-append-le, drop-append-le, take-replicate, length-replicate, map-append, length-map}
-use Rattle.grib_mapped.specs.Mapped.{mapped, codes_after}
+use Rattle.grib_coding.specs.Mapped.{mapped, codes_after}
 use Rattle.grib_coding.specs.declared.coding.Coding.{Coding}
 use Rattle.grib_coding.specs.Coding.{block_count, is_mapped, greatest}
 use Rattle.grib_coding.specs.Numbers.{Told, Reference, Code, is_reference, told, told_after}
-use Rattle.grib_block_writing.specs.Blocks.{all_told, pieces, blocks_of, block_at, numbers_of, base_of, code_of, codes_of, reference_of, is_zero}
+use Rattle.grib_coding.specs.Blocks.{all_told, pieces, blocks_of, code_of, codes_of, reference_of, is_zero}
+use Rattle.grib_block_writing.specs.Steps.{block_at, numbers_of, base_of}
 
 -- ---- pieces of a list
 

@@ -12,12 +12,13 @@ use Rattle.grib_coding.specs.declared.fault.BlockFault.{BlockFault}
 use Rattle.grib_coding.specs.Items.{Item, IsItem, Run, covered}
 use Rattle.grib_coding.specs.Numbers.{Told, Reference, Code, told_after}
 use Rattle.grib_coding.specs.Reading.{Front, Found, Coded, Decoded, decoded, read_as, ended_by, item_fault, entries_of, front_item, items_from, is_over, is_too_long, skipped, behind as with_behind, coded_of}
-use Rattle.grib_mapped.specs.Mapped.{codes_after}
-use Rattle.grib_choice.specs.Runs.{run_room, run_number}
-use Rattle.grib_choice.specs.Choices.{chosen}
-use Rattle.grib_mapped.proofs.Lists.{tells_within}
-use Rattle.grib_block_writing.specs.Blocks.{all_told, blocks_of, block_at, codes_of, reference_of, numbers_of, base_of}
-use Rattle.grib_block_writing.specs.Written.{run_length, number_of, coded_bits, chosen_item, bits_from, skip_of, written}
+use Rattle.grib_coding.specs.Mapped.{codes_after}
+use Rattle.grib_coding.specs.Runs.{run_room, run_number}
+use Rattle.grib_coding.specs.Choices.{chosen}
+use Rattle.grib_coding.proofs.Lists.{tells_within}
+use Rattle.grib_coding.specs.Blocks.{all_told, blocks_of, codes_of, reference_of}
+use Rattle.grib_block_writing.specs.Steps.{block_at, numbers_of, base_of}
+use Rattle.grib_coding.specs.Written.{run_length, number_of, coded_bits, chosen_item, bits_from, skip_of, written}
 use Rattle.grib_block_writing.proofs.Shapes.{Shape, shape, told_block, reference_at, codes_at, length-told, within_blocks}
 use Rattle.grib_block_writing.proofs.Zeros.{fits_block, base-within, these-within}
 use Rattle.grib_block_writing.proofs.Runs.{run_bits, block_bits, number_is}

@@ -6,14 +6,15 @@ use Rattle.std.proofs.lemmas.Bool.Decides.{nat_tests}
 use Rattle.std.proofs.lemmas.List.{drop_all, drop-replicate}
 use Rattle.std.proofs.lemmas.List.Elements.{All-head, All-tail, All-take, All-drop, All-get_or, All-append, All-replicate}
 use Rattle.std.proofs.lemmas.List.Folds.{list_all-append}
-use Rattle.grib_mapped.specs.Mapped.{mapped, codes_after}
-use Rattle.grib_mapped.proofs.Folds.{once}
+use Rattle.grib_coding.specs.Mapped.{mapped, codes_after}
+use Rattle.grib_coding.proofs.Folds.{once}
 use Rattle.grib_coding.specs.declared.coding.Coding.{Coding}
 use Rattle.grib_coding.specs.Coding.{Fits, block_count, is_mapped, greatest}
 use Rattle.grib_coding.specs.Numbers.{Told}
-use Rattle.grib_choice.specs.Runs.{run_room}
-use Rattle.grib_block_writing.specs.Blocks.{all_told, blocks_of, block_at, numbers_of, base_of, codes_of, is_zero, zero_blocks}
-use Rattle.grib_block_writing.specs.Written.{run_length}
+use Rattle.grib_coding.specs.Runs.{run_room}
+use Rattle.grib_coding.specs.Blocks.{all_told, blocks_of, codes_of, is_zero, zero_blocks}
+use Rattle.grib_block_writing.specs.Steps.{block_at, numbers_of, base_of}
+use Rattle.grib_coding.specs.Written.{run_length}
 use Rattle.grib_block_writing.proofs.Shapes.{shape, same-mapped, codes_at, within_blocks, next_block, length-pieces}
 
 pub fits_block : (c : Coding) → Fits c → (1 ≤ c.block) × (c.block ≤ 64) × (c.block % 2 ≡ 0)

@@ -1,2 +1,2 @@
-pub mod Blocks
-pub mod Written
+pub mod Splits
+pub mod Steps

@@ -4,12 +4,13 @@ ghost use Rattle.std.specs.Prelude.{◌≡◌, ℕ, ◌+◌, ◌-◌, ◌*◌, �
 ghost use Rattle.grib_coding.specs.Reading.{IsWithin};
 ghost use Rattle.std.specs.List.{list_all};
 ghost use Rattle.grib_coding.specs.Coding.{Fits, greatest, block_count, is_mapped};
-ghost use Rattle.grib_block_writing.specs.Blocks.{block_at, blocks_of, numbers_of, base_of, codes_of, reference_of, is_zero};
-ghost use Rattle.grib_block_writing.specs.Written.{run_length};
+ghost use Rattle.grib_coding.specs.Blocks.{blocks_of, codes_of, reference_of, is_zero};
+ghost use Rattle.grib_block_writing.specs.Steps.{block_at, numbers_of, base_of};
+ghost use Rattle.grib_coding.specs.Written.{run_length};
 
-use grib_choice::room_of_run;
+use crate::mapping::map_block;
+use crate::zero_runs::room_of_run;
 use grib_coding::Coding;
-use grib_mapped::map_block;
 
 /// The numbers of a block.
 #[inline]

@@ -3,7 +3,8 @@
 ghost use Rattle.std.specs.Prelude.{◌≡◌, ℕ, ◌+◌, ◌-◌, ◌*◌, ◌/◌, ◌%◌, ◌^◌, ◌<◌, ◌≤◌, All, length, map};
 ghost use Rattle.grib_bits.specs.Bits.{bits_of};
 ghost use Rattle.grib_coding.specs.Items.{sequence, all_bits};
-ghost use Rattle.grib_block_writing.specs.Written.{AddsBits, pair_numbers, highs, lows};
+ghost use Rattle.grib_coding.specs.Written.{pair_numbers, highs, lows};
+ghost use Rattle.grib_block_writing.specs.Steps.{AddsBits};
 
 use grib_bits::BitWriter;
 

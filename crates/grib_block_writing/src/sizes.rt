@@ -3,14 +3,16 @@
 ghost use Rattle.std.specs.Prelude.{◌≡◌, ◌+◌, ◌-◌, ◌*◌, ◌/◌, ◌%◌, ◌^◌, ◌<◌, ◌≤◌, All, length, drop};
 ghost use Rattle.grib_coding.specs.Reading.{coded_of};
 ghost use Rattle.grib_coding.specs.Coding.{Fits, greatest, block_count, is_padded, identifier_width};
-ghost use Rattle.grib_choice.specs.Choices.{bits_as, chosen};
-ghost use Rattle.grib_block_writing.specs.Blocks.{block_at, blocks_of, codes_of, reference_of};
-ghost use Rattle.grib_block_writing.specs.Written.{bits_from, chosen_item, coded_bits, reference_bits, skip_of, written};
+ghost use Rattle.grib_coding.specs.Choices.{bits_as, chosen};
+ghost use Rattle.grib_coding.specs.Blocks.{blocks_of, codes_of, reference_of};
+ghost use Rattle.grib_block_writing.specs.Steps.{block_at};
+ghost use Rattle.grib_coding.specs.Written.{bits_from, chosen_item, coded_bits, reference_bits, skip_of, written};
 
 use crate::blocks::{fill_codes, reference_in, run_length_at};
+use crate::choosing::choose;
+use crate::sums::{high_sum_of, pair_sum_of};
 use crate::writer::run_number_at;
-use grib_choice::{Choice, choose, high_sum_of, pair_sum_of};
-use grib_coding::Coding;
+use grib_coding::{Choice, Coding};
 
 /// How many bits an item has, and how many blocks it covers.
 #[derive(Clone, Copy, Debug)]

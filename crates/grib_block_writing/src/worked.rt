@@ -3,7 +3,7 @@
 ghost use Rattle.std.specs.Prelude.{◌≡◌, List, [], ◌∷◌, ◌++◌, false, replicate};
 ghost use Rattle.grib_bits.specs.Bits.{bits};
 ghost use Rattle.grib_coding.specs.Streams.{coding, split_octets, mixed_octets, mixed_numbers, run_octets, short_octets, wide_octets, wide_numbers};
-ghost use Rattle.grib_block_writing.specs.Written.{written};
+ghost use Rattle.grib_coding.specs.Written.{written};
 
 /// What is written of the numbers of worked streams are these streams, up to the zeros that fill the last octets.
 pub fn streams()

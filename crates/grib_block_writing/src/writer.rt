@@ -3,14 +3,16 @@
 ghost use Rattle.std.specs.Prelude.{◌≡◌, ◌+◌, ◌-◌, ◌*◌, ◌%◌, ◌^◌, ◌<◌, ◌≤◌, All, length, drop, Bool, false, ◌||◌, ◌==◌};
 ghost use Rattle.grib_coding.specs.Reading.{IsWithin, coded_of};
 ghost use Rattle.grib_coding.specs.Coding.{Fits, greatest, block_count, is_padded};
-ghost use Rattle.grib_block_writing.specs.Blocks.{block_at, blocks_of, codes_of};
-ghost use Rattle.grib_block_writing.specs.Written.{AddsBits, Leaves, bits_from, chosen_item, coded_bits, number_of, run_length, written};
-ghost use Rattle.grib_choice.specs.Runs.{run_room, run_number};
+ghost use Rattle.grib_coding.specs.Blocks.{blocks_of, codes_of};
+ghost use Rattle.grib_block_writing.specs.Steps.{block_at};
+ghost use Rattle.grib_coding.specs.Written.{bits_from, chosen_item, coded_bits, number_of, run_length, written};
+ghost use Rattle.grib_block_writing.specs.Steps.{AddsBits, Leaves};
+ghost use Rattle.grib_coding.specs.Runs.{run_room, run_number};
 
 use crate::blocks::{fill_codes, reference_in, run_length_at};
 use crate::writing::{write_block, write_run};
+use crate::zero_runs::{number_of_run, room_of_run};
 use grib_bits::BitWriter;
-use grib_choice::{number_of_run, room_of_run};
 use grib_coding::Coding;
 
 /// The number of the run of so many zero blocks that begins with a block.

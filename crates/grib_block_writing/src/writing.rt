@@ -4,12 +4,13 @@ ghost use Rattle.std.specs.Prelude.{◌≡◌, ℕ, ◌+◌, ◌-◌, ◌*◌, �
 ghost use Rattle.grib_coding.specs.Reading.{IsWithin, coded_of};
 ghost use Rattle.grib_coding.specs.Coding.{Fits, greatest, identifier_width};
 ghost use Rattle.grib_coding.specs.Items.{Run, Second, Split, Plain};
-ghost use Rattle.grib_block_writing.specs.Written.{AddsBits, chosen_item, coded_bits, head_bits, pair_numbers, highs, lows};
+ghost use Rattle.grib_coding.specs.Written.{chosen_item, coded_bits, pair_numbers, highs, lows};
+ghost use Rattle.grib_block_writing.specs.Steps.{AddsBits, head_bits};
 
+use crate::choosing::choose;
 use crate::items::{write_high, write_low, write_pairs, write_plain, write_sequence};
 use grib_bits::BitWriter;
-use grib_choice::{Choice, choose};
-use grib_coding::Coding;
+use grib_coding::{Choice, Coding};
 
 /// Writes the identifier in `width` bits, and the reference, if there is one.
 #[inline]

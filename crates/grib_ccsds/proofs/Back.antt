@@ -4,7 +4,7 @@ use Rattle.std.proofs.lemmas.Bool.{lt-ltb, le-ltb, cases_lt, ne_eqb}
 use Rattle.std.proofs.lemmas.List.Elements.{All-head, All-tail}
 use Rattle.grib_bits.specs.Bits.{bits}
 use Rattle.grib_bits.specs.Written.{padding}
-use Rattle.grib_base.specs.Rows.{first_fault}
+use Rattle.grib_base.specs.Rules.{first_fault}
 use Rattle.grib_base.proofs.Passing.{none_from_passes}
 use Rattle.grib_coding.specs.declared.coding.Coding.{Coding}
 use Rattle.grib_coding.specs.Numbers.{numbers_told, told_after}
@@ -12,7 +12,7 @@ use Rattle.grib_coding.specs.Reading.{Decoded, decoded, read_as}
 use Rattle.grib_coding.proofs.Told.{found_again}
 use Rattle.grib_packing.specs.declared.column.Column.{Column}
 use Rattle.grib_packing.specs.declared.column.Point.{Point}
-use Rattle.grib_packing.specs.Coded.{coding_of, is_coded, is_block, are_flags_refused, coded_rows, point_of, coded_numbers, decoded_of, block_refusal}
+use Rattle.grib_packing.specs.Coded.{coding_of, is_coded, is_block, are_flags_refused, coded_rules, point_of, coded_numbers, decoded_of, block_refusal}
 use Rattle.grib_packing.specs.Column.{points_with_mask}
 use Rattle.grib_packing.specs.Entries.{packing_fault, data_fault, entries_of, column_from}
 use Rattle.grib_packing.specs.Misfits.{ToCoded, first_misfit}
@@ -20,15 +20,15 @@ use Rattle.grib_packing.specs.Packed.{IsCoded, blocks_written, coding_to, padded
 use Rattle.grib_packing.specs.Packing.{bit_width}
 use Rattle.grib_packing.specs.Written.{IsBlocks, MayBePacked}
 use Rattle.grib_packing.proofs.Packings.{packing_fault-coded}
-use Rattle.grib_block_writing.specs.Written.{written}
+use Rattle.grib_coding.specs.Written.{written}
 use Rattle.grib_block_writing.proofs.Stream.{read_back}
-use Rattle.grib_simple.proofs.Accepted.{same_column}
-use Rattle.grib_simple.proofs.Back.{points_again, shared_rows}
+use Rattle.grib_simple_reading.proofs.Accepted.{same_column}
+use Rattle.grib_simple.proofs.Back.{points_again, shared_rules}
 use Rattle.grib_simple.proofs.Fitting.{few_numbers, nothing_fails}
-use Rattle.grib_ccsds.proofs.Taken.{fault_by, entries_by}
+use Rattle.grib_block_feeding.proofs.Values.{fault_by, entries_by}
 use Rattle.grib_ccsds.proofs.ToCode.{column_fits, column_within, width_holds, width_most}
 
--- ---- the rows of Section 5
+-- ---- the rules of Section 5
 
 and_false : (a b : Bool) → b ≡ false → (a && b) ≡ false
 and_false true b e = e
@@ -46,10 +46,10 @@ known_interval n some most = ap₂ ◌||◌ (ne_eqb n 0 (λ z. omega arith)) (le
 known_flags : (c : Coding) → c.flags ≡ 14 → are_flags_refused c ≡ false
 known_flags c is = ap (λ (f : ℕ). are_flags_refused (record { bits = c.bits; flags = f; block = c.block; interval = c.interval })) is
 
-rows_pass : (s : List ℕ) → (coding_of s).flags ≡ 14 → IsBlocks (coding_of s).block (coding_of s).interval → first_fault (coded_rows s) ≡ None
-rows_pass s flags blocks =
+rules_pass : (s : List ℕ) → (coding_of s).flags ≡ 14 → IsBlocks (coding_of s).block (coding_of s).interval → first_fault (coded_rules s) ≡ None
+rules_pass s flags blocks =
     let c = coding_of s in
-    none_from_passes (coded_rows s) (
+    none_from_passes (coded_rules s) (
       and_false (is_coded s) (are_flags_refused c) (known_flags c flags),
       (
         and_false (is_coded s) (not (is_block c.block)) (known_block c.block blocks.0),
@@ -76,10 +76,10 @@ module _ (block interval : ℕ) (column : Column) (kind : ℕ) (s5 s6 s7 : List 
   pub accepted : packing_fault s5 (length column.points) ≡ None
   accepted =
       let points = column.points in
-      let shared = shared_rows s5 column (length points) (length (simple_numbers points)) 42 (simple_width points) kind h.numbers
+      let shared = shared_rules s5 column (length points) (length (simple_numbers points)) 42 (simple_width points) kind h.numbers
       refl (omega (arith, h.as_long)) (omega (arith, h.as_long)) (few_numbers points) may.finite (width_most points none) in
       packing_fault-coded s5 (length points) shared h.numbers.template_stands
-      ∙ rows_pass s5 h.coding.flags (subst₂ IsBlocks (sym h.coding.block) (sym h.coding.interval) blocks)
+      ∙ rules_pass s5 h.coding.flags (subst₂ IsBlocks (sym h.coding.block) (sym h.coding.interval) blocks)
 
   coding_is : coding_of s5 ≡ coding_to block interval column.points
   coding_is = λ i. record { bits = h.numbers.bit_width_stands i; flags = h.coding.flags i; block = h.coding.block i; interval = h.coding.interval i }

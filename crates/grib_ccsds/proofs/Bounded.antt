@@ -6,9 +6,10 @@ use Rattle.grib_coding.specs.declared.coding.Coding.{Coding}
 use Rattle.grib_coding.specs.Coding.{Fits, block_count}
 use Rattle.grib_coding.specs.Items.{Run}
 use Rattle.grib_coding.specs.Reading.{coded_of}
-use Rattle.grib_choice.specs.Runs.{run_room, run_number}
-use Rattle.grib_block_writing.specs.Blocks.{block_at, blocks_of, codes_of, reference_of}
-use Rattle.grib_block_writing.specs.Written.{bits_from, chosen_item, coded_bits, reference_bits, run_length, skip_of, written}
+use Rattle.grib_coding.specs.Runs.{run_room, run_number}
+use Rattle.grib_coding.specs.Blocks.{blocks_of, codes_of, reference_of}
+use Rattle.grib_block_writing.specs.Steps.{block_at}
+use Rattle.grib_coding.specs.Written.{bits_from, chosen_item, coded_bits, reference_bits, run_length, skip_of, written}
 use Rattle.grib_block_writing.proofs.Heads.{most_width}
 use Rattle.grib_block_writing.proofs.Lengths.{length-run, length-chosen, chosen_few}
 use Rattle.grib_block_writing.proofs.Read.{length-block, run_of}

@@ -1,5 +1,3 @@
-pub mod Accepting
-pub mod Taken
 pub mod Bounded
 mod Collected
 mod Sizes

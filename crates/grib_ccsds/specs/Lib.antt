@@ -1,4 +1,3 @@
-pub mod Representation
 pub mod Numbers
 pub mod Blocks
 pub mod Fewer

@@ -22,7 +22,7 @@ pub record Answers (takes_memory : Bool) (words : List (List ℕ)) (outcome : Ou
   pub answer : AnswersWork (work_of words) (policy_of words) outcome before now
   -- A message that `check` or `list` refuses is refused within one read of the octet that makes it so.
   pub soon : policy_of words ≡ nothing → IfOk (job_of words) (λ job. IfHears job (RefusesInTime (profile_of words) outcome before.left now.left))
-  -- What is answered is in the grammar of its edition, that of edition 2 by the profile that the words ask for, and a refusal names the first row that fails.
+  -- What is answered is in the grammar of its edition, that of edition 2 by the profile that the words ask for, and a refusal names the first rule that fails.
   pub judged : IfOk (job_of words) (λ job. IfSome before.left (Judges (profile_of words) (policy_of words) outcome))
   -- What is written has the values of each point, the columns of each field, or is a whole field under its name.
   pub kept : IfOk (job_of words) (λ job. Leaves (profile_of words) job (policy_of words) outcome before now)

@@ -2,8 +2,8 @@
 use Rattle.std.proofs.Common.{◌≡◌, ℕ, ◌+◌, ◌≤◌, Bool, true, false, cond, List, [], ◌∷◌, refl, sym, ap, ap₂, ◌∙◌, arith}
 use Rattle.std.specs.List.{All}
 use Rattle.std.proofs.lemmas.List.Elements.{All-head, All-tail}
-use Rattle.grib_mapped.specs.Mapped.{mapped, unmapped}
-use Rattle.grib_mapped.proofs.Folds as folds
+use Rattle.grib_coding.specs.Mapped.{mapped, unmapped}
+use Rattle.grib_coding.proofs.Folds as folds
 use Rattle.grib_coding.specs.declared.coding.Coding.{Coding}
 use Rattle.grib_coding.specs.Coding.{greatest, is_mapped}
 use Rattle.grib_coding.specs.Numbers.{Told, Reference, Code, told, is_reference, told_after, number_told, numbers_told, AreTold}

@@ -3,3 +3,8 @@ pub mod Items
 pub mod Reading
 pub mod Numbers
 pub mod Streams
+pub mod Mapped
+pub mod Choices
+pub mod Runs
+pub mod Blocks
+pub mod Written

@@ -1,7 +1,7 @@
 -- What coded bits tell of each number (CCSDS 121.0-B; WMO-No. 306, Volume I.2, FM 92 GRIB edition 2, data template
 -- 7.42).
 use Rattle.std.specs.Prelude.{◌≡◌, ℕ, ◌+◌, ◌*◌, ◌%◌, ◌≤◌, Bool, cond, ◌&&◌, ◌==◌, List, [], ◌∷◌, All}
-use Rattle.grib_mapped.specs.Mapped.{mapped, unmapped}
+use Rattle.grib_coding.specs.Mapped.{mapped, unmapped}
 use Rattle.grib_coding.specs.declared.coding.Coding.{Coding}
 use Rattle.grib_coding.specs.Coding.{is_mapped, greatest}
 

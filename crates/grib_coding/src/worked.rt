@@ -3,7 +3,10 @@
 ghost use Rattle.std.specs.Prelude.{◌≡◌, ℕ, ◌^◌, ◌<◌, List, [], ◌∷◌, ◌++◌, Bool, true, false, replicate, take, None, Some};
 ghost use Rattle.grib_bits.specs.Bits.{bits, bits_of};
 ghost use Rattle.grib_coding.specs.declared.fault.BlockFault.TheVariants.{Short, Block, Value};
+ghost use Rattle.grib_coding.specs.declared.choice.Choice.TheVariants.{Plain as AsPlain, Second as AsSecond, Split as AsSplit};
 ghost use Rattle.grib_coding.specs.declared.coding.Coding.{Coding};
+ghost use Rattle.grib_coding.specs.Choices.{bits_as, chosen};
+ghost use Rattle.grib_coding.specs.Coding.{greatest, identifier_width, block_count};
 ghost use Rattle.grib_coding.specs.Items.{Item, IsItem, item_bits, pair_of, pair_number};
 ghost use Rattle.grib_coding.specs.Reading.{decoded, read_as, fault_of, front_item, Found};
 ghost use Rattle.grib_coding.specs.Streams.{coding, split_octets, mixed_octets, mixed_numbers, run_octets, short_octets, wide_octets, wide_numbers, long_run_octets, long_sequence_octets, longest_sequence_octets, great_code_octets, padded_octets};
@@ -47,4 +50,22 @@ pub fn items_are_read_back()
     ensures with_reference { (c : Coding) (number : ℕ) (item : Item) (rest : List Bool) → number < 2 ^ c.bits → IsItem c 1 item
         → front_item c true (item_bits c (bits_of c.bits number) item ++ rest)
         ≡ Found (record { reference = Some number; item = item }) rest }
+{}
+
+/// What is chosen for worked blocks, and libaec chooses it too, and the bits.
+pub fn choices()
+    ensures second { chosen (coding 2 30 8 4) 0 (3 ∷ replicate 7 0) ≡ AsSecond }
+    ensures plain { chosen (coding 2 30 8 4) 1 (0 ∷ 1 ∷ 3 ∷ 1 ∷ 3 ∷ 0 ∷ 0 ∷ 0 ∷ []) ≡ AsPlain }
+    ensures least_split { chosen (coding 4 14 8 2) 1 (0 ∷ 0 ∷ 0 ∷ 2 ∷ 1 ∷ 0 ∷ 0 ∷ 0 ∷ []) ≡ AsSplit 0 }
+    ensures split { chosen (coding 8 14 8 128) 1 (0 ∷ 1 ∷ 2 ∷ 255 ∷ replicate 4 0) ≡ AsSplit 5 }
+    ensures split_bits { bits_as (coding 8 14 8 128) 1 (0 ∷ 1 ∷ 2 ∷ 255 ∷ replicate 4 0) (AsSplit 5) ≡ 49 }
+    ensures wide { chosen (coding 17 14 8 1) 1 (0 ∷ 2 ∷ 3 ∷ 2 ∷ 4 ∷ 3 ∷ 19 ∷ 62162 ∷ []) ≡ AsSplit 13 }
+{}
+
+/// The coding that ecCodes writes of numbers of 12 bits, and one with short identifiers.
+pub fn codings()
+    ensures greatest { greatest (coding 12 14 32 128) ≡ 4095 }
+    ensures width { identifier_width (coding 12 14 32 128) ≡ 4 }
+    ensures blocks { block_count (coding 12 14 32 128) 33 ≡ 2 }
+    ensures short_width { identifier_width (coding 2 30 8 4) ≡ 1 }
 {}

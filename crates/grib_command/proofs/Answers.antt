@@ -12,9 +12,9 @@ use Rattle.grib_io.specs.declared.outside.Stop.TheVariants as Stops
 use Rattle.grib_stream.specs.Acts.{world, writes, DidFront}
 use Rattle.grib_stream.specs.Task.{Given, Gives}
 use Rattle.grib_stream.proofs.Worlds.{did_write, did_write_front}
-use Rattle.grib_repack.specs.declared.target.RepackTarget.{RepackTarget}
-use Rattle.grib_repack.specs.declared.target.RepackTarget.TheVariants.{Simple, Complex, Spatial, Coded}
-use Rattle.grib_repack.specs.Faults.{target_of}
+use Rattle.grib_packing.specs.declared.target.RepackTarget.{RepackTarget}
+use Rattle.grib_packing.specs.declared.target.RepackTarget.TheVariants.{Simple, Complex, Spatial, Coded}
+use Rattle.grib_packing.specs.Targets.{target_of}
 use Rattle.grib_reasons.specs.declared.cause.Cause.{Cause}
 use Rattle.grib_command.specs.declared.answered.Answered.{Answered}
 use Rattle.grib_command.specs.declared.answered.Answered.TheVariants.{Whole}

@@ -4,7 +4,7 @@ use Rattle.std.specs.declared.option.Option.{Option}
 use Rattle.std.specs.Io.KnownBytes.{Appends}
 use Rattle.grib_io.specs.Outside.{AppendsFront, Unfinished}
 use Rattle.grib_stream.specs.declared.outcome.Outcome.{Outcome}
-use Rattle.grib_stream.specs.declared.outcome.Outcome.TheVariants.{Done, Passed, Differs, Usage, Refused, Kept, TableRefused, SurfacesRefused, FileRefused, ReadFault, WriteFault, ShelfFault, Memory, InputTooLong}
+use Rattle.grib_stream.specs.declared.outcome.Outcome.TheVariants.{WriteFault, ShelfFault, Memory}
 use Rattle.grib_stream.specs.Outcomes.{KeepsOrCuts, is_cut_short}
 use Rattle.grib_command.specs.Closing.{ClosesRun, EndsInTurn, EndsRun, EndsNoted, StandsWhole}
 use Rattle.grib_command.specs.Outcomes.{note_of, note_with}
@@ -141,29 +141,5 @@ pub unfinished_then : {Output : Type 0} (faults : Output → ℕ) (settled : Out
     → Unfinished (settled before) (settled mid) → (outcome ≢ WriteFault → faults mid ≡ faults before) → (outcome ≡ WriteFault → now ≡ mid)
     → (faults mid < faults now → Unfinished (settled mid) (settled now)) → faults before < faults now → Unfinished (settled before) (settled now)
 unfinished_then faults settled WriteFault before mid now first calm kept later rose = λ all. first (sym (ap settled (kept refl)) ∙ all)
-unfinished_then faults settled Done before mid now first calm kept later rose =
-    then_unfinished (faults before) (faults mid) (faults now) (settled before) (settled mid) (settled now) first (calm (λ e. cc)) later rose
-unfinished_then faults settled (Passed refused kept) before mid now first calm kept_as later rose =
-    then_unfinished (faults before) (faults mid) (faults now) (settled before) (settled mid) (settled now) first (calm (λ e. cc)) later rose
-unfinished_then faults settled Differs before mid now first calm kept later rose =
-    then_unfinished (faults before) (faults mid) (faults now) (settled before) (settled mid) (settled now) first (calm (λ e. cc)) later rose
-unfinished_then faults settled (Usage word) before mid now first calm kept later rose =
-    then_unfinished (faults before) (faults mid) (faults now) (settled before) (settled mid) (settled now) first (calm (λ e. cc)) later rose
-unfinished_then faults settled (Refused refusal) before mid now first calm kept later rose =
-    then_unfinished (faults before) (faults mid) (faults now) (settled before) (settled mid) (settled now) first (calm (λ e. cc)) later rose
-unfinished_then faults settled (Kept own) before mid now first calm kept later rose =
-    then_unfinished (faults before) (faults mid) (faults now) (settled before) (settled mid) (settled now) first (calm (λ e. cc)) later rose
-unfinished_then faults settled (TableRefused refusal) before mid now first calm kept later rose =
-    then_unfinished (faults before) (faults mid) (faults now) (settled before) (settled mid) (settled now) first (calm (λ e. cc)) later rose
-unfinished_then faults settled (SurfacesRefused refusal) before mid now first calm kept later rose =
-    then_unfinished (faults before) (faults mid) (faults now) (settled before) (settled mid) (settled now) first (calm (λ e. cc)) later rose
-unfinished_then faults settled (FileRefused refusal) before mid now first calm kept later rose =
-    then_unfinished (faults before) (faults mid) (faults now) (settled before) (settled mid) (settled now) first (calm (λ e. cc)) later rose
-unfinished_then faults settled ReadFault before mid now first calm kept later rose =
-    then_unfinished (faults before) (faults mid) (faults now) (settled before) (settled mid) (settled now) first (calm (λ e. cc)) later rose
-unfinished_then faults settled ShelfFault before mid now first calm kept later rose =
-    then_unfinished (faults before) (faults mid) (faults now) (settled before) (settled mid) (settled now) first (calm (λ e. cc)) later rose
-unfinished_then faults settled Memory before mid now first calm kept later rose =
-    then_unfinished (faults before) (faults mid) (faults now) (settled before) (settled mid) (settled now) first (calm (λ e. cc)) later rose
-unfinished_then faults settled InputTooLong before mid now first calm kept later rose =
+unfinished_then faults settled other before mid now first calm kept later rose =
     then_unfinished (faults before) (faults mid) (faults now) (settled before) (settled mid) (settled now) first (calm (λ e. cc)) later rose

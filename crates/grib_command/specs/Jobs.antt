@@ -2,11 +2,11 @@
 use Rattle.std.specs.Prelude.{◌≡◌, ◌≤◌, Some, Bool, true, ◌||◌, ◌&&◌, ◌==◌, nat_lt, List, [], All, IsTrue}
 use Rattle.grib_keys.specs.declared.condition.Change.{Change}
 use Rattle.grib_keys.specs.Keys.{can_set}
-use Rattle.grib1_sections.specs.Keys.{can_set1}
+use Rattle.grib_keys.specs.Keys1.{can_set1}
 use Rattle.grib1_select.specs.declared.condition.Change1.{Change1}
 use Rattle.grib_packing.specs.Coded.{is_block}
-use Rattle.grib_repack.specs.declared.target.RepackTarget.{RepackTarget}
-use Rattle.grib_repack.specs.declared.target.RepackTarget.TheVariants.{Simple, Complex, Spatial, Coded}
+use Rattle.grib_packing.specs.declared.target.RepackTarget.{RepackTarget}
+use Rattle.grib_packing.specs.declared.target.RepackTarget.TheVariants.{Simple, Complex, Spatial, Coded}
 use Rattle.grib_synthetic.specs.Made.{MayBeMade}
 use Rattle.grib_command.specs.declared.job.Job.{Job}
 use Rattle.grib_command.specs.declared.job.Job.TheVariants.{Dump, Set, Set1, Repack, Crop, Make}

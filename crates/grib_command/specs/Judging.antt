@@ -1,6 +1,6 @@
 -- What the octets of an input are, by the edition that they state.
 use Rattle.std.specs.Prelude.{ℕ, List, ◌==◌}
-use Rattle.grib_base.specs.Rows.{choose}
+use Rattle.grib_base.specs.Rules.{choose}
 use Rattle.grib_base.specs.declared.profile.Profile.{Profile}
 use Rattle.grib_base.specs.declared.profile.Profile.TheVariants.{Stated}
 use Rattle.grib2_sections.specs.Head.{edition}

@@ -1,14 +1,13 @@
 //! The notes on what was changed, could not be changed, or was made.
 
 ghost use Rattle.std.specs.Prelude.{◌≡◌, string_bytes, IfOk};
-ghost use Rattle.grib_reasons.specs.declared.cause.Cause.TheVariants.{Demoted, Lost};
 ghost use Rattle.grib_command.specs.Endings as endings;
 ghost use Rattle.grib_command.specs.Notes as notes;
 ghost use Rattle.grib_command.specs.Outcomes.{note_of};
 ghost use Rattle.grib_stream.specs.declared.outcome.Outcome.TheVariants.{Usage};
 
 use grib_base::{Fault, Refusal};
-use grib_reasons::{Cause, Demotion, Kept, Loss, TableRefusal};
+use grib_reasons::{Kept, TableRefusal};
 use grib_stream::{FileRefusal, Totals};
 use std::alloc::{AllocError, Global};
 
@@ -34,10 +33,9 @@ pub fn passed_note(alloc: Global, refused: u64, kept: u64) -> Result<Vec<u8>, Al
 pub fn kept_note(alloc: Global, kept: &Kept) -> Result<Vec<u8>, AllocError>
     ensures { IfOk result (λ note. note.items ≡ notes.kept_note kept.now.message kept.now.cause) }
 {
-    let message = kept.message;
-    let head = format!(in alloc; "kept message {message}")?;
-    let text = kept_text(alloc, head.as_str(), &kept.cause)?;
-    Ok(text.into_bytes())
+    let Kept { message, cause } = *kept;
+    let note = format!(in alloc; "kept message {message} {cause}\n")?;
+    Ok(note.into_bytes())
 }
 
 /// The line on a message that cannot be changed, and behind which a run goes on, with the octets of
@@ -45,10 +43,9 @@ pub fn kept_note(alloc: Global, kept: &Kept) -> Result<Vec<u8>, AllocError>
 pub fn kept_line(alloc: Global, kept: &Kept, before: u64) -> Result<Vec<u8>, AllocError>
     ensures { IfOk result (λ line. line.items ≡ notes.kept_line kept.now.message before kept.now.cause) }
 {
-    let message = kept.message;
-    let head = format!(in alloc; "kept message {message} at {before}")?;
-    let text = kept_text(alloc, head.as_str(), &kept.cause)?;
-    Ok(text.into_bytes())
+    let Kept { message, cause } = *kept;
+    let line = format!(in alloc; "kept message {message} at {before} {cause}\n")?;
+    Ok(line.into_bytes())
 }
 
 /// The line on octets that are refused and copied, at the place where a message of this number would begin behind
@@ -68,159 +65,6 @@ pub fn copied_line(
         "copied message {message} at {before} octet {octet} {reason} {detail}\n"
     )?;
     Ok(line.into_bytes())
-}
-
-/// What cannot be changed, and by what.
-fn kept_text(alloc: Global, head: &str, cause: &Cause) -> Result<String, AllocError>
-    ensures { IfOk result (λ text. string_bytes text ≡ notes.kept_text head.now cause.now) }
-{
-    match *cause {
-        Cause::EditionOne => format!(in alloc; "{head} EditionOne\n"),
-        Cause::EditionTwo => format!(in alloc; "{head} EditionTwo\n"),
-        Cause::SecondaryMissing { field, point } => {
-            text_at_point(alloc, head, "SecondaryMissing", field, point)
-        }
-        Cause::OutOfRange { field, point } => {
-            text_at_point(alloc, head, "OutOfRange", field, point)
-        }
-        Cause::DifferenceRange { field } => text_in_field(alloc, head, "DifferenceRange", field),
-        Cause::OutputTooLong(length) => { format!(in alloc; "{head} OutputTooLong {length}\n") }
-        Cause::KeyRange { key } => text_at_key(alloc, head, key.name()),
-        Cause::KeyRange1 { key } => text_at_key(alloc, head, key.name()),
-        Cause::KeyAbsent { field, key } => { text_without_key(alloc, head, key.name(), field) }
-        Cause::Lost(loss) => lost_text(alloc, head, &loss),
-        Cause::Demoted { field, loss } => demoted_text(alloc, head, &loss, field),
-        Cause::GridKind { field } => text_in_field(alloc, head, "GridKind", field),
-        Cause::ScanMode { field } => text_in_field(alloc, head, "ScanMode", field),
-        Cause::OutsideBox { field } => text_in_field(alloc, head, "OutsideBox", field),
-        Cause::Increments { field } => text_in_field(alloc, head, "Increments", field),
-        Cause::DecimalRange { field, point } => {
-            text_at_point(alloc, head, "DecimalRange", field, point)
-        }
-        Cause::Packing { template, field } => text_of_packing(alloc, head, template, field),
-        Cause::Date => format!(in alloc; "{head} Date\n"),
-    }
-}
-
-/// What cannot be changed, by the packing of a field, of this template.
-fn text_of_packing(
-    alloc: Global,
-    head: &str,
-    template: u16,
-    field: u32,
-) -> Result<String, AllocError>
-    ensures { IfOk result (λ text. string_bytes text ≡ notes.text_of_packing head.now template field) }
-{
-    let text = format!(in alloc; "{head} Packing {template} field {field}\n")?;
-    Ok(text)
-}
-
-/// What cannot be changed, by a cause of this name at a point of a field.
-fn text_at_point(
-    alloc: Global,
-    head: &str,
-    name: &str,
-    field: u32,
-    point: u32,
-) -> Result<String, AllocError>
-    ensures { IfOk result (λ text. string_bytes text ≡ notes.text_at_point head.now name.now field point) }
-{
-    let text = format!(in alloc; "{head} {name} field {field} point {point}\n")?;
-    Ok(text)
-}
-
-/// What cannot be changed, by a cause of this name in a field.
-fn text_in_field(alloc: Global, head: &str, name: &str, field: u32) -> Result<String, AllocError>
-    ensures { IfOk result (λ text. string_bytes text ≡ notes.text_in_field head.now name.now field) }
-{
-    let text = format!(in alloc; "{head} {name} field {field}\n")?;
-    Ok(text)
-}
-
-/// What cannot be changed, by this loss.
-fn lost_text(alloc: Global, head: &str, loss: &Loss) -> Result<String, AllocError>
-    ensures { IfOk result (λ text. string_bytes text ≡ notes.kept_text head.now (Lost loss.now)) }
-{
-    match loss.number() {
-        Some(number) => text_of_numbered_loss(alloc, head, loss.name(), number),
-        None => text_of_loss(alloc, head, loss.name()),
-    }
-}
-
-/// What cannot be changed, by a loss of this name that has no number.
-fn text_of_loss(alloc: Global, head: &str, name: &str) -> Result<String, AllocError>
-    ensures { IfOk result (λ text. string_bytes text ≡ notes.text_of_loss head.now name.now None) }
-{
-    let text = format!(in alloc; "{head} Loss {name}\n")?;
-    Ok(text)
-}
-
-/// What cannot be changed, by a loss of this name with its number.
-fn text_of_numbered_loss(
-    alloc: Global,
-    head: &str,
-    name: &str,
-    number: u32,
-) -> Result<String, AllocError>
-    ensures { IfOk result (λ text.
-        string_bytes text ≡ notes.text_of_loss head.now name.now (Some number)) }
-{
-    let text = format!(in alloc; "{head} Loss {name} {number}\n")?;
-    Ok(text)
-}
-
-/// What cannot be changed, by this loss of a field.
-fn demoted_text(
-    alloc: Global,
-    head: &str,
-    loss: &Demotion,
-    field: u32,
-) -> Result<String, AllocError>
-    ensures { IfOk result (λ text. string_bytes text ≡ notes.kept_text head.now (Demoted field loss.now)) }
-{
-    match loss.number() {
-        Some(number) => text_of_numbered_demotion(alloc, head, loss.name(), number, field),
-        None => text_of_demotion(alloc, head, loss.name(), field),
-    }
-}
-
-/// What cannot be changed, by a loss of this name of a field that has no number.
-fn text_of_demotion(alloc: Global, head: &str, name: &str, field: u32) -> Result<String, AllocError>
-    ensures { IfOk result (λ text. string_bytes text ≡ notes.text_of_demotion head.now name.now None field) }
-{
-    let text = format!(in alloc; "{head} Demotion {name} field {field}\n")?;
-    Ok(text)
-}
-
-/// What cannot be changed, by a loss of this name of a field, with its number.
-fn text_of_numbered_demotion(
-    alloc: Global,
-    head: &str,
-    name: &str,
-    number: u64,
-    field: u32,
-) -> Result<String, AllocError>
-    ensures { IfOk result (λ text.
-        string_bytes text ≡ notes.text_of_demotion head.now name.now (Some number) field) }
-{
-    let text = format!(in alloc; "{head} Demotion {name} {number} field {field}\n")?;
-    Ok(text)
-}
-
-/// What cannot be changed, where the value of this key does not fit.
-fn text_at_key(alloc: Global, head: &str, key: &str) -> Result<String, AllocError>
-    ensures { IfOk result (λ text. string_bytes text ≡ notes.text_at_key head.now key.now) }
-{
-    let text = format!(in alloc; "{head} KeyRange {key}\n")?;
-    Ok(text)
-}
-
-/// What cannot be changed, where a field has not this key.
-fn text_without_key(alloc: Global, head: &str, key: &str, field: u32) -> Result<String, AllocError>
-    ensures { IfOk result (λ text. string_bytes text ≡ notes.text_without_key head.now key.now field) }
-{
-    let text = format!(in alloc; "{head} KeyAbsent {key} field {field}\n")?;
-    Ok(text)
 }
 
 /// The note on a parameter table that is refused.

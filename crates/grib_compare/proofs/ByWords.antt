@@ -6,7 +6,7 @@ use Rattle.std.proofs.lemmas.Int.{ints}
 use Rattle.std.proofs.lemmas.List.{length-map}
 use Rattle.std.specs.Int.{int_min, int_max}
 use Rattle.std.specs.List.{list_any}
-use Rattle.grib_base.specs.Rows.{choose}
+use Rattle.grib_base.specs.Rules.{choose}
 use Rattle.grib_bits.specs.Bits.{bits_of, signed}
 use Rattle.grib_dyadic.specs.Reference.{Binary, ieee, two_to_difference}
 use Rattle.grib_dyadic.specs.Value.{value_of, Same}
@@ -17,7 +17,7 @@ use Rattle.grib_packing.specs.declared.column.Point.{Point}
 use Rattle.grib_packing.specs.declared.column.Point.TheVariants.{Scaled, Missing, Missing2}
 use Rattle.grib_packing.specs.Misfits.{is_outside, is_scaled_outside}
 use Rattle.grib_simple.proofs.Fitting.{parts_false}
-use Rattle.grib_complex.specs.KeptWords.{word_for}
+use Rattle.grib_codes.specs.KeptWords.{word_for}
 use Rattle.grib2_message.specs.Fields.{meaning_at}
 use Rattle.grib_same.specs.Sameness.{is_same_point, difference_from, first_difference}
 use Rattle.grib_same.proofs.Differences.{points_decide}

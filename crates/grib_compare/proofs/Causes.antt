@@ -2,6 +2,7 @@
 use Rattle.std.proofs.Common.{◌≡◌, ℕ, Bool, Option, Some, None, List, Ok, Err, MatchResult, sym, ap, ◌∙◌, subst}
 use Rattle.std.specs.Result.{IsErrAnd}
 use Rattle.std.specs.declared.result.Result.{Result}
+use Rattle.grib_base.specs.Rules.{or_later}
 use Rattle.grib2_sections.specs.Head.{edition}
 use Rattle.grib2_message.specs.Message.{IsFirstOpaque}
 use Rattle.grib2_message.specs.declared.readable.OpaqueField.{OpaqueField}
@@ -15,12 +16,12 @@ use Rattle.grib_file.specs.Filed.{FieldOf}
 use Rattle.grib_compare.specs.declared.lines.Lines.{Lines}
 use Rattle.grib_compare.specs.declared.stop.CompareStop.{CompareStop}
 use Rattle.grib_compare.specs.declared.stop.CompareStop.TheVariants.{Kept, Memory}
-use Rattle.grib_compare.specs.Command.{compare_cause, counterpart_cause, compare_text, compare_count, packing_of, or_cause, given_unless, beside, on_counterpart}
+use Rattle.grib_compare.specs.Command.{compare_cause, counterpart_cause, compare_text, compare_count, packing_of, given_unless, beside, on_counterpart}
 use Rattle.grib_compare.specs.Seen.{IsClear, IsOpaque, AreLines, StopsBy}
 use Rattle.grib_compare.proofs.Editions.{opaque_second}
 
 cause_clear : (fields : List FieldOf) (place : Place) (message : List ℕ) → IsClear message → compare_cause fields place message ≡ counterpart_cause fields place message
-cause_clear fields place message clear = ap (λ o. or_cause o (λ _. counterpart_cause fields place message)) (clear (λ o. packing_of message o o))
+cause_clear fields place message clear = ap (λ o. or_later o (λ _. counterpart_cause fields place message)) (clear (λ o. packing_of message o o))
 
 module _ (sections quiet : Bool) (fields : List FieldOf) (place : Place) (message : List ℕ) where
   by_cause : (cause : Option Cause) → compare_cause fields place message ≡ cause
@@ -45,7 +46,7 @@ module _ (sections quiet : Bool) (fields : List FieldOf) (place : Place) (messag
       → beside sections quiet fields place message ≡ Ends (kept_at place.message (Packing opaque.template opaque.field))
   given_opaque opaque second is =
       by_cause (Some (packing_of message opaque.field opaque.field))
-      (ap (λ o. or_cause o (λ _. counterpart_cause fields place message)) (opaque_second message opaque.field (λ o. packing_of message o o) second is.first))
+      (ap (λ o. or_later o (λ _. counterpart_cause fields place message)) (opaque_second message opaque.field (λ o. packing_of message o o) second is.first))
       ∙ ap (λ template. Ends (kept_at place.message (Packing template opaque.field))) (sym is.template)
 
 -- the cause by the message of a counterpart

@@ -1,6 +1,6 @@
 -- What is said of two fields by their points.
 use Rattle.std.proofs.Common.{◌≡◌, ℕ, ◌==◌, Bool, true, false, Option, Some, None, List, length, map, refl, sym, ap, ◌∙◌, subst}
-use Rattle.grib_base.specs.Rows.{choose}
+use Rattle.grib_base.specs.Rules.{choose}
 use Rattle.grib_bits.specs.Bits.{bits_of, signed}
 use Rattle.grib_dyadic.specs.Reference.{Binary, SameNumber, ieee, ibm}
 use Rattle.grib_dyadic.specs.Meaning.{Meant, SameMeaning}

@@ -1,9 +1,9 @@
 -- The lines of a message and the count of its fields that differ, one field after another.
 use Rattle.std.proofs.Common.{◌≡◌, ℕ, zero, suc, ◌+◌, ◌<◌, Option, Some, None, List, ◌++◌, refl, sym, ap, ◌∙◌, arith}
+use Rattle.grib_base.specs.Rules.{first_among}
 use Rattle.grib_reasons.specs.declared.cause.Cause.{Cause}
 use Rattle.grib_command.specs.Command.{texts_from}
 use Rattle.grib_command.proofs.Passing.{texts_more}
-use Rattle.grib_report.specs.Valuing.{first_cause}
 use Rattle.grib_report.proofs.Causes.{causes_at}
 use Rattle.grib_compare.specs.declared.stop.CompareStop.{CompareStop}
 use Rattle.grib_compare.specs.declared.stop.CompareStop.TheVariants.{Kept, Memory}
@@ -32,6 +32,6 @@ text_more text k old line now before here is =
 
 -- what stops at a field stops at the message
 pub stops_at : (cause : ℕ → Option Cause) (n k : ℕ) (stop : CompareStop) → k < n → ((j : ℕ) → j < k → cause (1 + j) ≡ None) → StopsBy (cause (k + 1)) stop
-    → StopsBy (first_cause cause n 1) stop
+    → StopsBy (first_among cause n 1) stop
 stops_at cause n k (Kept found) within none by = let e : 1 + k ≡ k + 1 = omega arith in causes_at cause n 1 k (Some found) within none (ap cause e ∙ by) refl
 stops_at cause n k Memory within none by = tt

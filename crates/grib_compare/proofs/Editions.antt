@@ -1,6 +1,6 @@
 -- What is said of a message and its fields, by its edition.
 use Rattle.std.proofs.Common.{◌≡◌, ℕ, ◌==◌, Some, None, List, Bor, ap, ◌∙◌}
-use Rattle.grib_base.specs.Rows.{choose}
+use Rattle.grib_base.specs.Rules.{choose}
 use Rattle.grib2_sections.specs.Head.{edition}
 use Rattle.grib2_message.specs.Fields.{field_count, meaning_of, part_octets}
 use Rattle.grib2_message.specs.Message.{first_opaque}

@@ -1,7 +1,7 @@
 -- A field beside itself.
 use Rattle.std.proofs.Common.{◌≡◌, ℕ, zero, suc, ◌+◌, Bool, true, false, cond, Some, None, List, [], ◌∷◌, length, refl, ap, ◌∙◌}
 use Rattle.std.proofs.lemmas.Bool.{eq-eqb}
-use Rattle.grib_base.specs.Rows.{choose}
+use Rattle.grib_base.specs.Rules.{choose}
 use Rattle.grib_dyadic.specs.Meaning.{Meant, valued, missing, missing2, SamePoint, SameMeaning}
 use Rattle.grib_file.specs.Filed.{FieldOf}
 use Rattle.grib_same.specs.Sameness.{first_difference}

@@ -1,7 +1,7 @@
 -- `compare`: the first field of the input beside the first of the file, the second beside the second, and so on: for each field of
 -- the input that has a counterpart a line. What is counted as written of a message is the number of its fields that differ.
 use Rattle.std.specs.Prelude.{ℕ, zero, suc, ◌+◌, ◌-◌, ◌==◌, Bool, false, Option, None, Some, List, [], length, slice_get}
-use Rattle.grib_base.specs.Rows.{choose}
+use Rattle.grib_base.specs.Rules.{choose, first_among, or_later}
 use Rattle.grib_base.specs.declared.profile.Profile.TheVariants.{Stated}
 use Rattle.grib2_sections.specs.Head.{edition}
 use Rattle.grib_packing.specs.Packing.{packing_template}
@@ -15,7 +15,6 @@ use Rattle.grib_stream.specs.Task.{Given, Gives, Ends}
 use Rattle.grib_command.specs.declared.ending.Ending.TheVariants.{Compared}
 use Rattle.grib_command.specs.Command.{Command, kept_at, texts_from}
 use Rattle.grib_command.specs.Judging.{fields_of}
-use Rattle.grib_report.specs.Valuing.{first_cause}
 use Rattle.grib_file.specs.Filed.{FieldOf, field_of}
 use Rattle.grib_compare.specs.declared.comparison.Comparison.{Comparison}
 use Rattle.grib_compare.specs.Fields.{compared, line_unless, differing}
@@ -43,18 +42,14 @@ abbrev pub on_counterpart : Option FieldOf → ℕ → Option Cause
 on_counterpart None i = None
 on_counterpart (Some other) i = opaque_cause other.message (λ o. packing_of other.message o i)
 
-abbrev pub or_cause : Option Cause → (Unit {0} → Option Cause) → Option Cause
-or_cause None next = next tt
-or_cause (Some cause) next = Some cause
-
 -- that of the first field whose counterpart has one
 abbrev pub counterpart_cause : List FieldOf → Place → List ℕ → Option Cause
-counterpart_cause fields place message = first_cause (λ i. on_counterpart (counterpart fields place i) i) (fields_of message) 1
+counterpart_cause fields place message = first_among (λ i. on_counterpart (counterpart fields place i) i) (fields_of message) 1
 
 -- that of the message, else that of the first of its fields whose counterpart has one
 abbrev pub compare_cause : List FieldOf → Place → List ℕ → Option Cause
 compare_cause fields place message =
-    or_cause (opaque_cause message (λ o. packing_of message o o)) (λ _. counterpart_cause fields place message)
+    or_later (opaque_cause message (λ o. packing_of message o o)) (λ _. counterpart_cause fields place message)
 
 -- ---- what is written
 

@@ -1,6 +1,6 @@
 -- Two fields side by side by the words of their points.
 use Rattle.std.specs.Prelude.{ℕ, ◌==◌, List, length}
-use Rattle.grib_base.specs.Rows.{choose}
+use Rattle.grib_base.specs.Rules.{choose}
 use Rattle.grib_compare.specs.declared.comparison.Comparison.{Comparison}
 use Rattle.grib_compare.specs.declared.comparison.Comparison.TheVariants.{Same, Shape}
 use Rattle.grib_compare.specs.Fields.{octet_from, on_point}

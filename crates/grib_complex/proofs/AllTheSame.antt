@@ -12,8 +12,8 @@ use Rattle.grib_packing.specs.Differences.{Descriptors, descriptors_of, differen
 use Rattle.grib_packing.specs.Misfits.{ToSpatial, are_differences_out, is_outside, is_missing, is_missing2, greatest_code, management_of, scaled_numbers}
 use Rattle.grib_packing.specs.Packed.{placed_codes, target_codes}
 use Rattle.grib_packing.specs.Groupings.{width_of}
-use Rattle.grib_packing.specs.Span.{IsSpan}
-use Rattle.grib_packing.specs.declared.span.Span.{Span}
+use Rattle.grib_codes.specs.Span.{IsSpan}
+use Rattle.grib_codes.specs.declared.span.Span.{Span}
 use Rattle.grib_split.specs.Fewest.{TakesNone}
 use Rattle.grib_groups.proofs.Same.{any_same, span_same, width_same}
 use Rattle.grib_spatial.specs.declared.differences.Differences.{Differences}

@@ -6,31 +6,31 @@ use Rattle.grib_bits.specs.Bits.{bits}
 use Rattle.grib_bits.specs.Octets.{octets}
 use Rattle.grib_base.specs.declared.code.Code.{Code}
 use Rattle.grib_base.specs.declared.fault.Fault.{Fault}
-use Rattle.grib_base.specs.Rows.{first_fault, first_place, or_then}
-use Rattle.grib_bitmap.specs.Mask.{bitmap_rows, mask_of, present_count}
+use Rattle.grib_base.specs.Rules.{first_fault, first_place, or_then}
+use Rattle.grib_bitmap.specs.Mask.{bitmap_rules, mask_of, present_count}
 use Rattle.grib_bitmap.proofs.Runs.{present_count-replicate}
 use Rattle.grib_packing.specs.declared.column.Column.{Column}
 use Rattle.grib_packing.specs.declared.column.Point.{Point}
 use Rattle.grib_packing.specs.declared.column.Point.TheVariants.{Scaled, Missing, Missing2}
 use Rattle.grib_packing.specs.Column.{points_with_mask}
-use Rattle.grib_packing.specs.Complex.{layout_of, complex_rows, difference_order, extra_octets, descriptor_octets}
-use Rattle.grib_packing.specs.Entries.{packing_fault, data_fault, group_data_fault, group_data_rows, range_rows, entries_of, group_entries, codes_of, numbers_of, refilled, present_code, has_no_groups, column_from, is_first_value_signed, descriptor_place, is_out_of_range, descriptors}
+use Rattle.grib_packing.specs.Complex.{layout_of, complex_rules, difference_order, extra_octets, descriptor_octets}
+use Rattle.grib_packing.specs.Entries.{packing_fault, data_fault, group_data_fault, group_data_rules, range_rules, entries_of, group_entries, codes_of, numbers_of, refilled, present_code, has_no_groups, column_from, is_first_value_signed, descriptor_place, is_out_of_range, descriptors}
 use Rattle.grib_packing.specs.Differences.{undone}
-use Rattle.grib_packing.specs.Groups.{group_rows}
+use Rattle.grib_packing.specs.Groups.{group_rules}
 use Rattle.grib_packing.specs.Groupings.{IsGrouping, width_bits_of, reference_bits_of}
 use Rattle.grib_packing.specs.Misfits.{ToComplex, first_misfit, greatest_code, is_scaled_outside, is_outside, management_of, scaled_numbers}
 use Rattle.grib_packing.specs.Packed.{HasLayout, HasNumbers, IsComplex, group_parts, no_bitmap_section, padded, placed_codes, target_codes}
 use Rattle.grib_packing.specs.Packing.{packing_template, value_count}
-use Rattle.grib_packing.specs.Span.{IsTold}
+use Rattle.grib_codes.specs.Span.{IsTold}
 use Rattle.grib_groups.specs.Encoding.{LaysOut, ReadsBack}
 use Rattle.grib_packing.specs.Laws.{UnpackTo}
 use Rattle.grib_packing.specs.Written.{MayBePacked}
 use Rattle.grib_packing.proofs.Packings.{IsComplexTemplate, data_fault-complex, entries_of-complex, packing_fault-complex}
-use Rattle.grib_simple.proofs.Accepted.{same_column}
-use Rattle.grib_simple.proofs.Back.{shared_rows}
+use Rattle.grib_simple_reading.proofs.Accepted.{same_column}
+use Rattle.grib_simple.proofs.Back.{shared_rules}
 use Rattle.grib_simple.proofs.Fitting.{parts_false, number_back}
-use Rattle.grib_simple.proofs.Masked.{with_mask_all}
-use Rattle.grib_complex.proofs.CodeByCode.{all_inside, length-placed, management-few, plain_told}
+use Rattle.grib_simple_reading.proofs.Masked.{with_mask_all}
+use Rattle.grib_codes.proofs.Reserved.{all_inside, length-placed, management-few, plain_told}
 use Rattle.grib_complex.proofs.GroupByGroup.{few_groups, some_groups, references_few, widths_few, parts_octets}
 use Rattle.grib_complex.proofs.Wholly.{padded-whole}
 
@@ -60,8 +60,8 @@ one_passes a fault e = rw e refl
 pub two_pass : (a b : Bool) (fa fb : Fault) (rest : Option Fault) → a ≡ false → b ≡ false → rest ≡ None → cond a (Some fa) (cond b (Some fb) rest) ≡ None
 two_pass a b fa fb rest ea eb er = rw (ea, eb) er
 
-pub no_bitmap_rows : (points values : ℕ) (earlier : Option (List Bool)) → values ≡ points → first_fault (bitmap_rows no_bitmap_section points values earlier) ≡ None
-no_bitmap_rows points values earlier same =
+pub no_bitmap_rules : (points values : ℕ) (earlier : Option (List Bool)) → values ≡ points → first_fault (bitmap_rules no_bitmap_section points values earlier) ≡ None
+no_bitmap_rules points values earlier same =
     one_passes _ _
     (ap not (eq-eqb (present_count (replicate points true)) values (present_count-replicate points true ∙ sym same)))
 
@@ -90,15 +90,15 @@ naturals_back m (Scaled x ∷ points) e =
 naturals_back m (Missing ∷ points) e = naturals_back m points e
 naturals_back m (Missing2 ∷ points) e = naturals_back m points e
 
--- ---- the rows of Section 5
+-- ---- the rules of Section 5
 
 pub none_of_seven : (a b c d e f g : Bool) (fa fb fc fd fe ff fg : Fault) → a ≡ false → b ≡ false → c ≡ false → d ≡ false → e ≡ false → f ≡ false → g ≡ false
     → cond a (Some fa) (cond b (Some fb) (cond c (Some fc) (cond d (Some fd) (cond e (Some fe) (cond f (Some ff) (cond g (Some fg) None)))))) ≡ None
 none_of_seven a b c d e f g fa fb fc fd fe ff fg ea eb ec ed ee ef eg = rw (ea, eb, ec, ed, ee, ef, eg) refl
 
 module _ (s5 : List ℕ) (codes : List Code) (lengths : List ℕ) (laid : LaysOut (layout_of s5) codes lengths) (values : value_count s5 ≡ length codes) where
-  pub complex_rows_pass : packing_template s5 ≡ 2 → first_fault (complex_rows s5) ≡ None
-  complex_rows_pass template =
+  pub complex_rules_pass : packing_template s5 ≡ 2 → first_fault (complex_rules s5) ≡ None
+  complex_rules_pass template =
       let layout = layout_of s5 in
       let not_spatial : (packing_template s5 == 3) ≡ false = ap (λ (t : ℕ). t == 3) template in
       none_of_seven _ _ _ _ _ _ _ _ _ _ _ _ _ _ (le-ltb 2 layout.management laid.management)
@@ -119,13 +119,13 @@ module _ (s5 s7 : List ℕ) (codes : List Code) (lengths : List ℕ) (laid : Lay
   pub codes_stand : codes_of s5 s7 ≡ codes
   codes_stand = reads.codes_stand
 
-  pub groups_pass : first_fault (group_rows (layout_of s5) s7 (descriptor_octets s5) (value_count s5)) ≡ None
-  groups_pass = ap (λ (n : ℕ). first_fault (group_rows (layout_of s5) s7 (descriptor_octets s5) n)) values ∙ reads.group_rows_pass
+  pub groups_pass : first_fault (group_rules (layout_of s5) s7 (descriptor_octets s5) (value_count s5)) ≡ None
+  groups_pass = ap (λ (n : ℕ). first_fault (group_rules (layout_of s5) s7 (descriptor_octets s5) n)) values ∙ reads.group_rules_pass
 
-  pub group_data_passes : first_fault (group_data_rows s5 s7) ≡ None → first_fault (range_rows s5 s7) ≡ None → group_data_fault s5 s7 ≡ None
-  group_data_passes rows range =
-      ap (λ (f : Option Fault). or_then (or_then f (λ _. group_data_rows s5 s7)) (λ _. range_rows s5 s7)) reads.list_rows_pass
-      ∙ ap (λ (f : Option Fault). or_then f (λ _. range_rows s5 s7)) rows ∙ range
+  pub group_data_passes : first_fault (group_data_rules s5 s7) ≡ None → first_fault (range_rules s5 s7) ≡ None → group_data_fault s5 s7 ≡ None
+  group_data_passes rules range =
+      ap (λ (f : Option Fault). or_then (or_then f (λ _. group_data_rules s5 s7)) (λ _. range_rules s5 s7)) reads.list_rules_pass
+      ∙ ap (λ (f : Option Fault). or_then f (λ _. range_rules s5 s7)) rules ∙ range
 
   pub data_passes : IsComplexTemplate (packing_template s5) → group_data_fault s5 s7 ≡ None → data_fault s5 s7 ≡ None
   data_passes template passes = data_fault-complex s5 s7 template ∙ rw some_here passes
@@ -184,10 +184,10 @@ module _ (column : Column) (kind : ℕ) (s5 s6 s7 : List ℕ) (may : MayBePacked
     accepted : packing_fault s5 (length column.points) ≡ None
     accepted =
         let narrow = references_few (layout_of s5) codes h.lengths laid_out in
-        let shared = shared_rows s5 column (length column.points) (length column.points) 2 (reference_bits_of (management_of column.points) codes) kind h.numbers
+        let shared = shared_rules s5 column (length column.points) (length column.points) 2 (reference_bits_of (management_of column.points) codes) kind h.numbers
         refl (omega (arith, h.as_long)) (omega (arith, h.as_long)) (omega arith) may.finite (omega (arith, narrow, h.numbers.bit_width_stands)) in
         packing_fault-complex s5 (length column.points) shared is_complex
-        ∙ complex_rows_pass s5 codes h.lengths laid_out values h.numbers.template_stands
+        ∙ complex_rules_pass s5 codes h.lengths laid_out values h.numbers.template_stands
 
     not_signed : (j : ℕ) → is_first_value_signed s5 s7 j ≡ false
     not_signed j =
@@ -196,9 +196,9 @@ module _ (column : Column) (kind : ℕ) (s5 s6 s7 : List ℕ) (may : MayBePacked
 
     data_none : data_fault s5 s7 ≡ None
     data_none =
-        let rows = two_pass _ _ _ _ _ (not_signed 0) (not_signed 1) (groups_pass s5 s7 codes h.lengths laid_out some values reads) in
+        let rules = two_pass _ _ _ _ _ (not_signed 0) (not_signed 1) (groups_pass s5 s7 codes h.lengths laid_out some values reads) in
         let range = one_passes _ _ (ap (λ (b : Bool). b && nat_lt 0 (first_place is_out_of_range (group_entries s5 s7))) not_spatial) in
-        data_passes s5 s7 codes h.lengths laid_out some values reads is_complex (group_data_passes s5 s7 codes h.lengths laid_out some values reads rows range)
+        data_passes s5 s7 codes h.lengths laid_out some values reads is_complex (group_data_passes s5 s7 codes h.lengths laid_out some values reads rules range)
 
     numbers_back : numbers_of s5 s7 ≡ scaled_numbers column.points
     numbers_back =
@@ -225,8 +225,8 @@ module _ (column : Column) (kind : ℕ) (s5 s6 s7 : List ℕ) (may : MayBePacked
     unpacks = record {
       representation = accepted;
       bitmap = λ earlier.
-          ap₂ (λ (s : List ℕ) (v : ℕ). first_fault (bitmap_rows s (length column.points) v earlier)) h.bitmap h.numbers.values_stand
-          ∙ no_bitmap_rows (length column.points) (length column.points) earlier refl;
+          ap₂ (λ (s : List ℕ) (v : ℕ). first_fault (bitmap_rules s (length column.points) v earlier)) h.bitmap h.numbers.values_stand
+          ∙ no_bitmap_rules (length column.points) (length column.points) earlier refl;
       values = data_none;
       column_stands = λ earlier. column_is (mask_of s6 (length column.points) earlier) (ap (λ (s : List ℕ). mask_of s (length column.points) earlier) h.bitmap);
     }

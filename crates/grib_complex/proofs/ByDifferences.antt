@@ -6,12 +6,12 @@ use Rattle.grib_bits.specs.Bits.{bits, bits_of}
 use Rattle.grib_bits.specs.Octets.{octets}
 use Rattle.grib_bits.proofs.OctetBits.{AreOctets, length-bits}
 use Rattle.grib_base.specs.declared.code.Code.{Code}
-use Rattle.grib_base.specs.Rows.{first_fault, first_place}
+use Rattle.grib_base.specs.Rules.{first_fault, first_place}
 use Rattle.grib_base.proofs.Places.{NoneOf, first_place-none}
-use Rattle.grib_bitmap.specs.Mask.{bitmap_rows, mask_of}
+use Rattle.grib_bitmap.specs.Mask.{bitmap_rules, mask_of}
 use Rattle.grib_packing.specs.declared.column.Column.{Column}
 use Rattle.grib_packing.specs.Column.{points_with_mask}
-use Rattle.grib_packing.specs.Complex.{layout_of, complex_rows, difference_order, extra_octets, descriptor_octets}
+use Rattle.grib_packing.specs.Complex.{layout_of, complex_rules, difference_order, extra_octets, descriptor_octets}
 use Rattle.grib_packing.specs.Differences.{Descriptors, undone, descriptors_of, difference_codes}
 use Rattle.grib_packing.specs.Entries.{packing_fault, data_fault, entries_of, group_entries, codes_of, numbers_of, refilled, present_code, column_from, is_first_value_signed, descriptors, first_value, minimum, is_out_of_range}
 use Rattle.grib_packing.specs.Groupings.{greatest, reference_bits_of}
@@ -25,12 +25,12 @@ use Rattle.grib_groups.specs.Encoding.{LaysOut, ReadsBack}
 use Rattle.grib_packing.specs.Laws.{UnpackTo}
 use Rattle.grib_packing.specs.Written.{MayBePacked}
 use Rattle.grib_packing.proofs.Packings.{IsComplexTemplate, packing_fault-complex}
-use Rattle.grib_simple.proofs.Accepted.{same_column}
-use Rattle.grib_simple.proofs.Back.{shared_rows}
+use Rattle.grib_simple_reading.proofs.Accepted.{same_column}
+use Rattle.grib_simple.proofs.Back.{shared_rules}
 use Rattle.grib_simple.proofs.Fitting.{number_back, parts_false}
-use Rattle.grib_simple.proofs.Masked.{with_mask_all}
-use Rattle.grib_complex.proofs.Back.{lays_out, one_passes, two_pass, none_of_seven, no_bitmap_rows, present_placed, refilled_placed, codes_stand, groups_pass, group_data_passes, data_passes, entries_are}
-use Rattle.grib_complex.proofs.CodeByCode.{length-placed, management-few}
+use Rattle.grib_simple_reading.proofs.Masked.{with_mask_all}
+use Rattle.grib_complex.proofs.Back.{lays_out, one_passes, two_pass, none_of_seven, no_bitmap_rules, present_placed, refilled_placed, codes_stand, groups_pass, group_data_passes, data_passes, entries_are}
+use Rattle.grib_codes.proofs.Reserved.{length-placed, management-few}
 use Rattle.grib_complex.proofs.Differing.{small_values, size_some, spatial_told, length-codes, length-descriptors}
 use Rattle.grib_complex.proofs.FirstValues.{first_back, first_clear, second_back, second_clear, minimum_back, size_few, size_room}
 use Rattle.grib_complex.proofs.GroupByGroup.{few_groups, references_few, widths_few, parts_octets}
@@ -87,7 +87,7 @@ module _ (order k : ℕ) (numbers : List ℤ) (fits : are_differences_out order 
       let room : most < 2 ^ (8 * descriptor_size d - 1) = size_room most few in
       (omega (arith, room), omega (arith, room), omega (arith, room))
 
--- ---- the rows of Section 5
+-- ---- the rules of Section 5
 
 order_known : (spatial : Bool) (n : ℕ) → (n ≡ 1) ⊎ (n ≡ 2) → ((spatial && not (n == 1)) && not (n == 2)) ≡ false
 order_known true n (inl one) = rw one refl
@@ -99,8 +99,8 @@ extra_few true n few = le-ltb 4 n few
 extra_few false n few = refl
 
 module _ (s5 : List ℕ) (codes : List Code) (lengths : List ℕ) (laid : LaysOut (layout_of s5) codes lengths) (values : value_count s5 ≡ length codes) where
-  spatial_rows_pass : (difference_order s5 ≡ 1) ⊎ (difference_order s5 ≡ 2) → extra_octets s5 ≤ 4 → first_fault (complex_rows s5) ≡ None
-  spatial_rows_pass order few =
+  spatial_rules_pass : (difference_order s5 ≡ 1) ⊎ (difference_order s5 ≡ 2) → extra_octets s5 ≤ 4 → first_fault (complex_rules s5) ≡ None
+  spatial_rules_pass order few =
       let layout = layout_of s5 in
       none_of_seven _ _ _ _ _ _ _ _ _ _ _ _ _ _ (le-ltb 2 layout.management laid.management)
       (le-ltb (value_count s5) layout.groups (omega (arith, values, laid.groups, few_groups (length codes) lengths laid.grouping)))
@@ -270,10 +270,10 @@ module _ (order : ℕ) (column : Column) (kind : ℕ) (s5 s6 s7 : List ℕ) (kno
     accepted : packing_fault s5 (length column.points) ≡ None
     accepted =
         let narrow = references_few (layout_of s5) codes h.lengths laid_out in
-        let shared = shared_rows s5 column (length column.points) (length column.points) 3 (reference_bits_of (management_of column.points) codes) kind h.numbers
+        let shared = shared_rules s5 column (length column.points) (length column.points) 3 (reference_bits_of (management_of column.points) codes) kind h.numbers
         refl (omega (arith, h.as_long)) (omega (arith, h.as_long)) (omega arith) may.finite (omega (arith, narrow, h.numbers.bit_width_stands)) in
         packing_fault-complex s5 (length column.points) shared is_complex
-        ∙ spatial_rows_pass s5 codes h.lengths laid_out values order_of few_octets
+        ∙ spatial_rules_pass s5 codes h.lengths laid_out values order_of few_octets
 
     stand : codes_of s5 s7 ≡ target_codes (ToSpatial order) column.points
     stand = codes_stand s5 s7 codes h.lengths laid_out some values reads
@@ -290,13 +290,13 @@ module _ (order : ℕ) (column : Column) (kind : ℕ) (s5 s6 s7 : List ℕ) (kno
 
     data_none : data_fault s5 s7 ≡ None
     data_none =
-        let rows = two_pass _ _ _ _ _ first_unsigned (second_unsigned order_of) (groups_pass s5 s7 codes h.lengths laid_out some values reads) in
+        let rules = two_pass _ _ _ _ _ first_unsigned (second_unsigned order_of) (groups_pass s5 s7 codes h.lengths laid_out some values reads) in
         let place : first_place is_out_of_range (group_entries s5 s7) ≡ 0 =
         ap (first_place is_out_of_range) group_points ∙ first_place-none is_out_of_range column.points (none_of_any is_out_of_range column.points may.within) in
         let within : (packing_template s5 == 3 && nat_lt 0 (first_place is_out_of_range (group_entries s5 s7))) ≡ false =
         ap₂ (λ (b : Bool) (n : ℕ). b && nat_lt 0 n) is_spatial place in
         let range = one_passes _ _ within in
-        data_passes s5 s7 codes h.lengths laid_out some values reads is_complex (group_data_passes s5 s7 codes h.lengths laid_out some values reads rows range)
+        data_passes s5 s7 codes h.lengths laid_out some values reads is_complex (group_data_passes s5 s7 codes h.lengths laid_out some values reads rules range)
 
     column_is : (mask : List Bool) → mask ≡ replicate (length column.points) true → column_from s5 mask s7 ≡ column
     column_is mask is =
@@ -309,8 +309,8 @@ module _ (order : ℕ) (column : Column) (kind : ℕ) (s5 s6 s7 : List ℕ) (kno
     unpacks = record {
       representation = accepted;
       bitmap = λ earlier.
-          ap₂ (λ (s : List ℕ) (v : ℕ). first_fault (bitmap_rows s (length column.points) v earlier)) h.bitmap h.numbers.values_stand
-          ∙ no_bitmap_rows (length column.points) (length column.points) earlier refl;
+          ap₂ (λ (s : List ℕ) (v : ℕ). first_fault (bitmap_rules s (length column.points) v earlier)) h.bitmap h.numbers.values_stand
+          ∙ no_bitmap_rules (length column.points) (length column.points) earlier refl;
       values = data_none;
       column_stands = λ earlier. column_is (mask_of s6 (length column.points) earlier) (ap (λ (s : List ℕ). mask_of s (length column.points) earlier) h.bitmap);
     }

@@ -10,12 +10,12 @@ use Rattle.grib_packing.specs.Differences.{code_at, difference_codes}
 use Rattle.grib_packing.specs.Entries.{is_out_of_range}
 use Rattle.grib_packing.specs.Misfits.{DifferenceRange, greatest_code, scaled_numbers}
 use Rattle.grib_packing.specs.Packed.{placed_codes}
-use Rattle.grib_packing.specs.Span.{IsTold}
+use Rattle.grib_codes.specs.Span.{IsTold}
 use Rattle.grib_spatial.specs.Trail.{IsNear, IsTrail}
 use Rattle.grib_spatial.specs.declared.trail.Trail.{Trail}
 use Rattle.grib_complex.proofs.Differing.{length-codes}
 use Rattle.grib_complex.proofs.PointByPoint.{Seen, seen_mark, seen_number, seen_all, number_left, code_there}
-use Rattle.grib_complex.proofs.Worded.{Step, step_number, step_mark}
+use Rattle.grib_codes.proofs.Worded.{Step, step_number, step_mark}
 
 -- ---- codes above the greatest
 

@@ -4,9 +4,9 @@ use Rattle.grib_base.specs.declared.code.Code.{Code}
 use Rattle.grib_packing.specs.declared.column.Point.{Point}
 use Rattle.grib_packing.specs.Differences.{Descriptors, difference_codes}
 use Rattle.grib_packing.specs.Misfits.{ToSpatial, DifferenceRange, first_misfit, management_of, scaled_numbers, are_differences_out}
-use Rattle.grib_packing.specs.Span.{IsTold}
+use Rattle.grib_codes.specs.Span.{IsTold}
 use Rattle.grib_complex.specs.Constant.{DifferencesOf}
-use Rattle.grib_complex.proofs.CodeByCode.{length-placed, management-few}
+use Rattle.grib_codes.proofs.Reserved.{length-placed, management-few}
 use Rattle.grib_complex.proofs.Differing.{length-codes, small_values, spatial_told}
 
 module _ (order k : ℕ) (points : List Point) (d : Descriptors) (codes : List Code) (h : DifferencesOf order points d codes k) where

@@ -16,9 +16,9 @@ use Rattle.grib_packing.specs.Entries.{is_out_of_range}
 use Rattle.grib_packing.specs.Groupings.{greatest}
 use Rattle.grib_packing.specs.Misfits.{ToSpatial, are_differences_out, greatest_code, is_outside, management_of, scaled_numbers}
 use Rattle.grib_packing.specs.Packed.{IsSpatial, descriptor_fields, descriptor_size, signed_field, target_codes}
-use Rattle.grib_packing.specs.Span.{IsTold}
+use Rattle.grib_codes.specs.Span.{IsTold}
 use Rattle.grib_simple.proofs.Fitting.{parts_false}
-use Rattle.grib_complex.proofs.CodeByCode.{placed_told, reserved_1, reserved_2, management-few}
+use Rattle.grib_codes.proofs.Reserved.{placed_told, reserved_1, reserved_2, management-few}
 use Rattle.grib_complex.proofs.Wholly.{GroupedBy}
 
 -- numbers within plus and minus 2 ^ 60

@@ -6,9 +6,9 @@ use Rattle.grib_base.specs.declared.code.Code.{Code}
 use Rattle.grib_packing.specs.declared.layout.Layout.{Layout}
 use Rattle.grib_packing.specs.Groupings.{IsGrouping, greatest, present_codes, joined, runs, length_bits, width_of}
 use Rattle.grib_packing.specs.Packed.{reference_of, group_fields, group_parts}
-use Rattle.grib_packing.proofs.Bounds.{all_below, width_bits-few}
+use Rattle.grib_codes.proofs.Bounds.{all_below, width_bits-few}
 use Rattle.grib_packing.proofs.Digits.{digits-most}
-use Rattle.grib_packing.proofs.Spans.{small_run}
+use Rattle.grib_codes.proofs.Spans.{small_run}
 use Rattle.grib_packing.proofs.Fields.{padded_octets, length-padded8}
 use Rattle.grib_groups.specs.Encoding.{LaysOut}
 use Rattle.grib_groups.proofs.Parts.{drop-next, sum-more, length-parts}

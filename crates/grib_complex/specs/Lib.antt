@@ -1,12 +1,2 @@
-pub mod Representation
-pub mod Told
-pub mod Tells
-pub mod Laws
-pub mod Descriptors
-pub mod Range
-pub mod Feeding
 pub mod Written
-pub mod FieldCodes
 pub mod Constant
-pub mod KeptWords
-pub mod Alike

@@ -3,11 +3,11 @@
 ghost use Rattle.std.specs.Prelude.{◌≡◌, ℕ, ◌+◌, ◌*◌, ◌≤◌, true, List, All, IsSomeAnd, length};
 ghost use Rattle.grib_packing.specs.Groupings.{IsGrouping};
 ghost use Rattle.grib_packing.specs.Packed.{group_parts};
-ghost use Rattle.grib_packing.specs.Span.{IsTold};
-ghost use Rattle.grib_complex.specs.FieldCodes.{codes_in};
+ghost use Rattle.grib_codes.specs.Span.{IsTold};
+ghost use Rattle.grib_codes.specs.FieldCodes.{codes_in};
 
-use crate::grouping::{FieldCodes, costs_of};
-use crate::words::Words;
+use crate::grouping::costs_of;
+use grib_codes::{FieldCodes, Words};
 use grib_split::bits_at_least;
 
 /// Whether a quick look shows that the groups of these codes, however they are cut, take `below` octets or

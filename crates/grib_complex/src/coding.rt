@@ -2,7 +2,7 @@
 
 ghost use Rattle.std.specs.Prelude.{◌≡◌, ◌≤◌, ◌∷◌, [], length, true, Some};
 ghost use Rattle.grib_packing.specs.Misfits.{OutOfRange, ToComplex, first_misfit, is_outside as is_outside_of, is_scaled_outside, management_of};
-ghost use Rattle.grib_complex.specs.KeptWords.{has_outside};
+ghost use Rattle.grib_codes.specs.KeptWords.{has_outside};
 
 use grib_packing::Point;
 

@@ -7,12 +7,12 @@ ghost use Rattle.grib_packing.specs.Entries.{is_out_of_range};
 ghost use Rattle.grib_packing.specs.Misfits.{DifferenceRange, ToSpatial, greatest_code, management_of, scaled_numbers as numbers_in};
 ghost use Rattle.grib_packing.specs.Packed.{target_codes};
 ghost use Rattle.grib_packing.specs.Written.{IsPackFault};
-ghost use Rattle.grib_spatial.specs.Order.{IsOrder};
+ghost use Rattle.grib_complex_reading.specs.Order.{IsOrder};
 ghost use Rattle.grib_spatial.specs.Undoing.{read_with};
 
-use crate::words::Words;
 use grib_base::Code;
-use grib_packing::{PackFault, Point, word_of};
+use grib_codes::{Words, word_of};
+use grib_packing::{PackFault, Point};
 use grib_spatial::{Differences, FirstAndLeast, Trail};
 use std::alloc::Global;
 

@@ -3,39 +3,17 @@
 ghost use Rattle.std.specs.Prelude.{◌≡◌, ℕ, ◌+◌, ◌*◌, ◌/◌, ◌<◌, ◌≤◌, length, map, replicate, All, IfOk};
 ghost use Rattle.grib_packing.specs.Groupings.{Chosen, IsGrouping, header_bits, joined, reference_bits_of, runs, width_bits_of, width_of};
 ghost use Rattle.grib_packing.specs.Packed.{group_fields, group_parts};
-ghost use Rattle.grib_packing.specs.Span.{IsTold, IsBelow};
+ghost use Rattle.grib_codes.specs.Span.{IsTold, IsBelow};
 ghost use Rattle.grib_groups.specs.Encoding.{AreMeasures, LaysOut};
 ghost use Rattle.grib_split.specs.Costs.{CanSplit};
-ghost use Rattle.grib_complex.specs.FieldCodes.{codes_in};
+ghost use Rattle.grib_codes.specs.FieldCodes.{codes_in};
 
-use crate::words::Words;
 use grib_base::Code;
-use grib_groups::{Layout, Measure, later_measures, measures_of, next_measure};
-use grib_packing::{Codes, Span, bit_length};
+use grib_codes::{Codes, FieldCodes, Span, Words};
+use grib_groups::{Measure, later_measures, measures_of, next_measure};
+use grib_packing::{Layout, bit_length};
 use grib_split::{Costs, chosen_lengths, fewest_lengths};
 use std::alloc::{AllocError, Global};
-
-/// The codes of a field.
-#[derive(Debug, Drop)]
-pub enum FieldCodes {
-    /// One for each point.
-    Each(Words),
-    /// The code that all points have, and how many points there are.
-    Same(Code, u32),
-}
-
-impl FieldCodes {
-    /// How many there are.
-    pub fn count(&self) -> u32
-        requires { length (codes_in self.now) ≤ 33554432 }
-        ensures { result ≡ length (codes_in self.now) }
-    {
-        match self {
-            FieldCodes::Each(words) => words.len() as u32,
-            FieldCodes::Same(_code, count) => *count,
-        }
-    }
-}
 
 /// The lengths of groups and what Section 5 says of them.
 #[derive(Debug, Drop)]

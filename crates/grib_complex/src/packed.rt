@@ -6,23 +6,22 @@ ghost use Rattle.grib_packing.specs.declared.column.Point as point_packing;
 ghost use Rattle.grib_packing.specs.Misfits.{ToComplex, ToSpatial};
 ghost use Rattle.grib_packing.specs.Packed.{IsComplex, IsSpatial};
 ghost use Rattle.grib_spatial.specs.Undoing.{read_with};
-ghost use Rattle.grib_packing.specs.Span.{IsTold};
+ghost use Rattle.grib_codes.specs.Span.{IsTold};
 ghost use Rattle.grib_complex.specs.Constant.{DifferencesOf};
-ghost use Rattle.grib_complex.specs.FieldCodes.{codes_in, HasCodes};
+ghost use Rattle.grib_codes.specs.FieldCodes.{codes_in, HasCodes};
 ghost use Rattle.grib_packing.specs.Below.{IsPackedBelow};
-ghost use Rattle.grib_complex.specs.KeptWords.{TellPoints};
+ghost use Rattle.grib_codes.specs.KeptWords.{TellPoints};
 ghost use Rattle.grib_packing.specs.Written.{MayBePacked};
 
 use crate::below::are_too_many;
 use crate::coding::first_outside;
 use crate::differencing::{descriptor_octets, write_descriptors};
-use crate::grouping::{FieldCodes, grouping_of, octets_of_groups};
-use crate::point_words::PointWords;
-use crate::told_codes::ToldCodes;
+use crate::grouping::{grouping_of, octets_of_groups};
 use crate::told_differences::{ToldDifferences, told_by_differences};
 use crate::writing::{
     Differencing, complex_representation, groups_section, spatial_representation,
 };
+use grib_codes::{FieldCodes, PointWords, ToldCodes};
 use grib_packing::{Column, PackFault, Packed, no_bitmap, room_for, write_head};
 use std::alloc::{AllocError, Global};
 

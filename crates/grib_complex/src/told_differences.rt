@@ -8,13 +8,13 @@ ghost use Rattle.grib_packing.specs.Misfits.{ToSpatial, first_misfit};
 ghost use Rattle.grib_packing.specs.Written.{IsPackFault};
 ghost use Rattle.grib_spatial.specs.Undoing.{read_with};
 ghost use Rattle.grib_complex.specs.Constant.{DifferencesOf};
-ghost use Rattle.grib_complex.specs.FieldCodes.{codes_in};
+ghost use Rattle.grib_codes.specs.FieldCodes.{codes_in};
 
 use crate::coding::management;
 use crate::constant::Constant;
 use crate::difference_coding::{codes_of_differences, differences_of};
 use crate::differencing::are_out;
-use crate::grouping::FieldCodes;
+use grib_codes::FieldCodes;
 use grib_packing::{PackFault, Point};
 use grib_simple::common_point;
 use grib_spatial::Differences;

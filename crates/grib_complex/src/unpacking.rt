@@ -2,19 +2,17 @@
 
 ghost use Rattle.std.specs.Prelude.{◌≡◌, ◌⊎◌, ℕ, ◌≤◌, List, length as length_of, None, MatchResult};
 ghost use Rattle.grib_base.specs.Faults.{IsReadFault};
-ghost use Rattle.grib_base.specs.Rows.{located};
+ghost use Rattle.grib_base.specs.Rules.{located};
 ghost use Rattle.grib_bitmap.specs.Mask.{present_count};
 ghost use Rattle.grib_packing.specs.Entries.{packing_fault, data_fault, entries_of};
 ghost use Rattle.grib_packing.specs.Packing.{packing_template, value_count};
 ghost use Rattle.grib_packing.specs.Unpacked.{IsUnpacked};
-ghost use Rattle.grib_complex.specs.Descriptors.{IsAccepted};
-ghost use Rattle.grib_complex.specs.Representation.{Spelled};
+ghost use Rattle.grib_complex_reading.specs.Descriptors.{IsAccepted};
+ghost use Rattle.grib_complex_reading.specs.Representation.{Spelled};
 
-use crate::representation::{Complex, accepted_complex};
-use crate::stages::ComplexReading;
-use byteorder::{BigEndian, ByteOrder};
 use grib_base::{ReadFault, Section};
 use grib_bitmap::Mask;
+use grib_complex_reading::{Complex, ComplexReading, accepted_complex, length_of_section};
 use grib_packing::{Column, Keeper, Points};
 use std::alloc::Global;
 
@@ -69,11 +67,4 @@ fn take_values<K: Keeper + Drop>(
     let reading = ComplexReading::start(alloc, complex, keeper, start, length)?;
     let reading = reading.push(alloc, &octets[5..], 0, start, length);
     Ok(reading.end(start)?)
-}
-
-/// The length that a section states, which is its own.
-pub fn length_of_section(section: &Section<'_>) -> u32
-    ensures { result ≡ length_of section.now.octets.now }
-{
-    BigEndian::read_u32(section.octets)
 }

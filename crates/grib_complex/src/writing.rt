@@ -9,14 +9,14 @@ ghost use Rattle.grib_packing.specs.Groupings.{runs};
 ghost use Rattle.grib_packing.specs.Packed.{HasContents, HasNumbers, group_parts};
 ghost use Rattle.grib_groups.specs.Encoding.{AreMeasures, LaysOut};
 ghost use Rattle.grib_packing.specs.Sections.{number_octets};
-ghost use Rattle.grib_complex.specs.FieldCodes.{codes_in};
+ghost use Rattle.grib_codes.specs.FieldCodes.{codes_in};
 ghost use Rattle.grib_complex.specs.Written.{HasLayoutOf, layout_octets};
 
-use crate::grouping::FieldCodes;
 use grib_base::List;
 use grib_bits::{BitWriter, write_u8, write_u32};
-use grib_groups::{Layout, Measure, encode_measured_groups, encode_same};
-use grib_packing::{Column, octets_written, write_head, write_numbers};
+use grib_codes::FieldCodes;
+use grib_groups::{Measure, encode_measured_groups, encode_same};
+use grib_packing::{Column, Layout, octets_written, write_head, write_numbers};
 
 /// What Section 5 says of differences: their order (code table 5.6), and the octets of each extra descriptor.
 #[derive(Clone, Copy, Debug)]

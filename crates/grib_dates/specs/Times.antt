@@ -4,7 +4,7 @@ use Rattle.std.specs.Prelude.{ℕ, Bool, not, ◌&&◌, List, drop, nat_lt, ℤ,
 use Rattle.jiff_core.specs.Calendar.{days_in_month}
 use Rattle.grib_bits.specs.Octets.{octets}
 use Rattle.grib1_sections.specs.Keys.{key_in}
-use Rattle.grib1_sections.specs.declared.key.Key1.TheVariants.{YearOfCentury, Month, Day, Hour, Minute, Century}
+use Rattle.grib_keys.specs.declared.key1.Key1.TheVariants.{YearOfCentury, Month, Day, Hour, Minute, Century}
 use Rattle.grib_dates.specs.declared.time.ReferenceTime.{ReferenceTime}
 
 abbrev pub time : ℤ → ℕ → ℕ → ℕ → ℕ → ℕ → ReferenceTime

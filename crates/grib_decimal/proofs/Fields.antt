@@ -6,6 +6,7 @@ use Rattle.std.proofs.lemmas.Bool.{cases_lt}
 use Rattle.std.proofs.lemmas.Bool.Decides.{nat_tests}
 use Rattle.std.proofs.lemmas.Int.{ints, clamps}
 use Rattle.std.specs.Int.{w64, is_negative}
+use Rattle.grib_bits.proofs.Arithmetic.{nat_abs-times}
 use Rattle.grib_dyadic.specs.Reference.{Binary, two_to_difference}
 use Rattle.grib_dyadic.specs.Value.{Exact, value_of}
 use Rattle.grib_dyadic.proofs.Numbers.{times_one}
@@ -15,7 +16,6 @@ use Rattle.grib_decimal.specs.Decimal.{or_0, decimal_text, factor, numerator, de
 use Rattle.grib_decimal.specs.Rounding.{nearest}
 use Rattle.grib_decimal.specs.Parts.{IsKnown, unit_of, base_of}
 use Rattle.grib_decimal.specs.Rounded.{IsRounded}
-use Rattle.grib_decimal.proofs.Powers.{abs-times}
 use Rattle.grib_decimal.proofs.Roundings.{factor_some, small_fraction}
 
 pub value_number : (r : Binary) (e d x shift : ℤ) → shift ≡ e -ℤ unit_of r e → base_of r e +ℤ (x *ℤ pos (2 ^ nat_abs shift)) ≡ (value_of r e d x).number
@@ -57,7 +57,7 @@ is_negative-times (negsuc n) k some =
 -- with a numerator and a denominator of 64 bits
 pub rounded_quick : (v : Exact) (places : ℕ) (n : ℤ) (divisor : ℕ) (res : Rounded) → n ≡ v.number *ℤ pos (factor v.binary v.decimal places) → nat_abs n < 2 ^ 63 → divisor ≡ denominator v places → divisor < 2 ^ 63 → res.negative ≡ is_negative n → res.number ≡ nearest (nat_abs n) divisor → res.number ≤ 2 ^ 63 → IsFalse (is_too_large v places) × IsRounded v places res
 rounded_quick v places n divisor res is small by few negative number low =
-    let e : nat_abs n ≡ numerator v places = ap nat_abs is ∙ abs-times v.number (factor v.binary v.decimal places) in
+    let e : nat_abs n ≡ numerator v places = ap nat_abs is ∙ nat_abs-times v.number (factor v.binary v.decimal places) in
     let below : numerator v places < 2 ^ 126 = omega arith in
     let below' : denominator v places < 2 ^ 126 = omega arith in (
       small_fraction v places below below',

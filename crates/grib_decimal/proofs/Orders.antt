@@ -1,9 +1,10 @@
 -- The order of scaled numbers and of values.
-use Rattle.std.proofs.Common.{◌≡◌, ◌≢◌, ℕ, ◌+◌, ◌-◌, ◌*◌, ◌<◌, ◌≤◌, inl, inr, List, length, get_or, Option, Some, None, IfSome, IfNone, ℤ, pos, ◌+ℤ◌, ◌*ℤ◌, ◌≤ℤ◌, ◌<ℤ◌, refl, sym, ap, subst, ◌∙◌, arith}
+use Rattle.std.proofs.Common.{◌≡◌, ◌≢◌, ℕ, ◌+◌, ◌-◌, ◌*◌, ◌<◌, ◌≤◌, inl, inr, List, length, get_or, Option, Some, None, IfSome, IfNone, ℤ, pos, ◌*ℤ◌, ◌≤ℤ◌, ◌<ℤ◌, refl, sym, ap, subst, ◌∙◌, arith}
 use Rattle.std.proofs.Math.Nat.{mul-le-mul_right}
 use Rattle.std.proofs.lemmas.Bool.{cases_lt}
 use Rattle.std.proofs.lemmas.Int.{ints}
 use Rattle.std.specs.Int.{int_min}
+use Rattle.grib_bits.proofs.Arithmetic.{sum_le}
 use borrow.Author.Differences.{up, down, product_is}
 use Rattle.grib_dyadic.specs.Reference.{Binary, two_to_difference}
 use Rattle.grib_dyadic.specs.Value.{value_of}
@@ -18,9 +19,6 @@ times_le x y n le =
     let less : up x + down y ≤ up y + down x = omega (arith, ints) in
     let more : (up x + down y) * n ≤ (up y + down x) * n = mul-le-mul_right n less in
     omega (arith, ints, product_is x (pos n), product_is y (pos n))
-
-pub sum_le : (b x y : ℤ) → x ≤ℤ y → (b +ℤ x) ≤ℤ (b +ℤ y)
-sum_le b x y le = omega (arith, ints)
 
 -- values rise with the scaled numbers
 pub at_most : (r : Binary) (e d x y : ℤ) → x ≤ℤ y → AtMost (value_of r e d x) (value_of r e d y)

@@ -3,8 +3,9 @@ use Rattle.std.proofs.Common.{◌≡◌, ℕ, suc, ◌*◌, ◌^◌, ◌<◌, �
 use Rattle.std.proofs.Math.Nat.{pow-le-pow_right, one-le-pow, mul-le-mul}
 use Rattle.std.proofs.lemmas.Nat.{one_shl, pow_below}
 use Rattle.std.proofs.lemmas.Bool.{cases_lt}
-use Rattle.std.proofs.lemmas.Int.{ints, clamps, unsigned_abs-mul, fits_signed_from_abs, to_z_pos}
+use Rattle.std.proofs.lemmas.Int.{ints, clamps, fits_signed_from_abs, to_z_pos}
 use Rattle.std.specs.Int.{w128, int_max}
+use Rattle.grib_bits.proofs.Arithmetic.{nat_abs-times}
 use Rattle.grib_decimal.specs.Decimal.{or_0}
 use Rattle.grib_decimal.specs.Parts.{IsKnown}
 
@@ -37,16 +38,13 @@ many_tens twos tens many =
     let product : 1 * 10 ^ 38 ≤ 2 ^ or_0 twos * 10 ^ or_0 tens = mul-le-mul (one-le-pow (or_0 twos) 2 (omega arith)) more in
     omega arith
 
-pub abs-times : (z : ℤ) (n : ℕ) → nat_abs (z *ℤ pos n) ≡ nat_abs z * n
-abs-times z n = unsigned_abs-mul z (pos n)
-
 pub many_bits : (number shift : ℤ) → number ≢ pos 0 → pos 126 <ℤ shift → 2 ^ 127 ≤ nat_abs (number *ℤ pos (2 ^ nat_abs shift))
 many_bits number shift some many =
     let long : 127 ≤ nat_abs shift = omega (arith, ints) in
     let more : 2 ^ 127 ≤ 2 ^ nat_abs shift = pow-le-pow_right {n = 2} (omega arith) {i = 127} {j = nat_abs shift} long in
     let one : 1 ≤ nat_abs number = omega (arith, ints) in
     let product : 1 * 2 ^ 127 ≤ nat_abs number * 2 ^ nat_abs shift = mul-le-mul one more in
-    omega (arith, abs-times number (2 ^ nat_abs shift))
+    omega (arith, nat_abs-times number (2 ^ nat_abs shift))
 
 -- what fits 128 bits is known
 pub known_from_fits : (o : Option ℤ) (z : ℤ) → SomeIff o (FitsSigned w128 z) z → IsKnown 127 o z

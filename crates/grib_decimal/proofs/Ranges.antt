@@ -6,6 +6,7 @@ use Rattle.std.proofs.lemmas.Int.{ints}
 use Rattle.std.proofs.lemmas.List.Folds.{list_any_at}
 use Rattle.std.specs.List.{list_any}
 use Rattle.std.specs.Int.{int_min}
+use Rattle.grib_bits.proofs.Arithmetic.{sum_le}
 use Rattle.grib_dyadic.specs.Reference.{two_to_difference}
 use Rattle.grib_packing.specs.declared.column.Point.{Point}
 use Rattle.grib_packing.specs.declared.column.Point.TheVariants.{Scaled, Missing, Missing2}
@@ -14,7 +15,7 @@ use Rattle.grib_decimal.specs.declared.extreme.Extremes.{Extremes}
 use Rattle.grib_decimal.specs.Bounds.{HasNoNumber, AreExtremes}
 use Rattle.grib_decimal.specs.Decimal.{Scale, value_at, is_too_large, factor, denominator_of}
 use Rattle.grib_decimal.specs.Range.{is_point_too_large, first_too_large}
-use Rattle.grib_decimal.proofs.Orders.{times_le, sum_le}
+use Rattle.grib_decimal.proofs.Orders.{times_le}
 use Rattle.grib_decimal.proofs.Positions.{position_none, none_at}
 
 -- a number between two others is no farther from 0 than one of them

@@ -9,6 +9,7 @@ use Rattle.std.proofs.lemmas.Int.{ints, fold-int_min_bounds, fold-int_min_reache
 use Rattle.std.proofs.lemmas.List.{length-take}
 use Rattle.std.proofs.lemmas.List.Elements.{All-cons, All-contains}
 use Rattle.std.proofs.lemmas.List.Sums.{count_by_more_yes, count_by_more_no, count_by-le-length, sum_by-cons}
+use Rattle.std.proofs.lemmas.Bool.{false_from_ne_true}
 use Rattle.grib_base.specs.declared.limits.TheConstants.{MOST_POINTS}
 use Rattle.grib_packing.specs.declared.column.Point.{Point}
 use Rattle.grib_packing.specs.declared.column.Point.TheVariants.{Scaled, Missing, Missing2}
@@ -68,12 +69,8 @@ greatest_is a xs m above among =
     let low : r ≤ℤ m = All-contains (λ y. y ≤ℤ m) (a ∷ xs) r above reached in
     omega (arith, ints)
 
-differs : (b : Bool) → (b ≡ true → ⊥) → b ≡ false
-differs true never = absurd (never refl)
-differs false never = refl
-
 other_number : (x : ℤ) (q : Point) → q ≢ Scaled x → has_number x q ≡ false
-other_number x (Scaled y) other = differs (int_eq y x) (λ e. other (ap Scaled ((Decides-int_eq y x).0 e)))
+other_number x (Scaled y) other = false_from_ne_true (int_eq y x) (λ e. other (ap Scaled ((Decides-int_eq y x).0 e)))
 other_number x Missing other = refl
 other_number x Missing2 other = refl
 

@@ -1,12 +1,10 @@
 -- Sums and products of integers, and how large they are.
 use Rattle.std.proofs.Common.{◌≡◌, ℕ, ◌+◌, ◌*◌, ◌^◌, ◌<◌, ◌≤◌, ℤ, pos, ◌+ℤ◌, ◌*ℤ◌, nat_abs, FitsSigned, sym, ap, ◌∙◌, arith}
 use Rattle.std.proofs.Math.Nat.{mul-le-mul_right, mul_comm}
-use Rattle.std.proofs.lemmas.Int.{ints, unsigned_abs-mul, fits_signed_from_abs}
+use Rattle.std.proofs.lemmas.Int.{unsigned_abs-mul, fits_signed_from_abs}
 use Rattle.std.specs.Int.{w64}
+use Rattle.grib_bits.proofs.Arithmetic.{nat_abs-sum}
 use Rattle.grib_dyadic.proofs.Numbers.{times_twice, times_sum}
-
-pub abs_sum : (a b : ℤ) → nat_abs (a +ℤ b) ≤ nat_abs a + nat_abs b
-abs_sum a b = omega (arith, ints)
 
 -- a multiple of the stride, and the numerator with it, have 64 bits
 pub product_small : (o s x : ℤ) (most : ℕ) → nat_abs o + most * nat_abs s < 2 ^ 63 → nat_abs x ≤ most → nat_abs o + nat_abs (x *ℤ s) < 2 ^ 63
@@ -18,7 +16,7 @@ pub product_fits : (o s x : ℤ) (most : ℕ) → nat_abs o + most * nat_abs s <
 product_fits o s x most within few = fits_signed_from_abs w64 (x *ℤ s) (omega (arith, product_small o s x most within few))
 
 pub sum_small : (o s x : ℤ) (most : ℕ) → nat_abs o + most * nat_abs s < 2 ^ 63 → nat_abs x ≤ most → nat_abs (o +ℤ (x *ℤ s)) < 2 ^ 63
-sum_small o s x most within few = omega (arith, abs_sum o (x *ℤ s), product_small o s x most within few)
+sum_small o s x most within few = omega (arith, nat_abs-sum o (x *ℤ s), product_small o s x most within few)
 
 pub sum_fits : (o s x : ℤ) (most : ℕ) → nat_abs o + most * nat_abs s < 2 ^ 63 → nat_abs x ≤ most → FitsSigned w64 (o +ℤ (x *ℤ s))
 sum_fits o s x most within few = fits_signed_from_abs w64 (o +ℤ (x *ℤ s)) (sum_small o s x most within few)

@@ -2,7 +2,7 @@
 use Rattle.std.specs.Prelude.{◌≡◌, ℕ, Bool, true, false, Option, Some, None, List, [], ◌∷◌, length, take, fold, count_by, ℤ}
 use Rattle.std.specs.Int.{int_min, int_max}
 use Rattle.std.specs.Ordering.{int_eq}
-use Rattle.grib_base.specs.Rows.{first_place}
+use Rattle.grib_base.specs.Rules.{first_place}
 use Rattle.grib_packing.specs.declared.column.Point.{Point}
 use Rattle.grib_packing.specs.declared.column.Point.TheVariants.{Scaled, Missing, Missing2}
 use Rattle.grib_packing.specs.Misfits.{is_missing, is_missing2, scaled_numbers}

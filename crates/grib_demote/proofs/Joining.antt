@@ -3,7 +3,8 @@ use Rattle.std.proofs.Common.{◌≡◌, ℕ, ◌==◌, ◌&&◌, ◌||◌, not,
 use Rattle.std.specs.Prelude.{Result, Ok, Err, MatchResult, IfOk, is_none, option_map, unwrap_or}
 use Rattle.std.specs.Result.{IsErrAnd}
 use Rattle.std.proofs.lemmas.Bool.Decides.{nat_tests}
-use Rattle.grib_base.specs.Rows.{choose}
+use Rattle.grib_bits.proofs.Logic.{left_false, right_false}
+use Rattle.grib_base.specs.Rules.{choose}
 use Rattle.grib2_sections.specs.Template.{is_template}
 use Rattle.grib2_grids.specs.Grid.{grid_template}
 use Rattle.grib2_grids.specs.Opaque.{is_opaque_grid}
@@ -102,14 +103,6 @@ told_is table matching discipline s1 s4 version parameter number unit pair_is le
     ∙ ap (λ o. told_by (Some (version, parameter)) (Some number) o) unit_is
     )
 
-first_false : (a b : Bool) → (a || b) ≡ false → a ≡ false
-first_false true b e = cc e
-first_false false b e = refl
-
-second_false : (a b : Bool) → (a || b) ≡ false → b ≡ false
-second_false true b e = cc e
-second_false false b e = e
-
 by_template : (t : ℕ) → not ((t == 0) || (t == 8)) ≡ false → not (is_template product_templates t) ≡ false
 by_template t known = grind (arith, nat_tests)
 
@@ -133,11 +126,11 @@ stated_product s4 known = by_template (product_template s4) known
 
 -- nor is such a grid
 pub stated_grid : (s3 : List ℕ) → loses_grid s3 ≡ false → is_opaque_grid s3 ≡ false
-stated_grid s3 known = first_false (is_opaque_grid s3) (is_none (type_of (grid_template s3))) known
+stated_grid s3 known = left_false (is_opaque_grid s3) (is_none (type_of (grid_template s3))) known
 
 -- and its template has a type of grid
 pub typed_grid : (s3 : List ℕ) → loses_grid s3 ≡ false → is_none (type_of (grid_template s3)) ≡ false
-typed_grid s3 known = second_false (is_opaque_grid s3) (is_none (type_of (grid_template s3))) known
+typed_grid s3 known = right_false (is_opaque_grid s3) (is_none (type_of (grid_template s3))) known
 
 pub demoted_holds : (table : Entries) (matching : TableMatch) (field : Field) (found : ℕ × ℕ × Level) (unit : ℕ) → Holds field.identification.now field.grid.now field.product.now field.packing.now
     → IsParameter table matching field found → AreTimes field.identification.now field.product.now unit → IsDemoted field

@@ -1,5 +1,5 @@
 -- Lemmas on lists that are gone through.
-use Rattle.std.proofs.Common.{◌≡◌, ℕ, ◌+◌, ◌<◌, ◌≤◌, ◌==◌, ◌||◌, Bool, true, false, cond, Some, None, List, [], ◌∷◌, ◌++◌, length, take, drop, get_or, suc, refl, sym, ap, ◌∙◌, append_assoc, arith}
+use Rattle.std.proofs.Common.{◌≡◌, ℕ, ◌+◌, ◌<◌, ◌≤◌, ◌==◌, Bool, true, false, cond, Some, None, List, [], ◌∷◌, ◌++◌, length, take, drop, get_or, suc, refl, sym, ap, ◌∙◌, append_assoc, arith}
 use Rattle.std.specs.Prelude.{is_none, unwrap_or}
 use Rattle.std.proofs.lemmas.List.{take_more}
 use Rattle.std.proofs.Math.Seq.{drop-cons, drop-length}
@@ -14,6 +14,7 @@ use Rattle.grib_demote.specs.Words.{ibm_of}
 use Rattle.grib_demote.specs.Losses.{is_lost, coordinate_loss_from}
 use Rattle.grib_demote.specs.Products.{coordinate_numbers}
 use Rattle.grib_bits.proofs.AllOctets.{all_octets-append}
+use Rattle.grib_bits.proofs.Logic.{right_false}
 
 next : (k : ℕ) → suc k ≡ k + 1
 next k = omega arith
@@ -43,19 +44,15 @@ coordinate_written words k old before now within is_before is_now =
     is_now ∙ ap (λ (xs : List ℕ). xs ++ all_octets one) is_before ∙ append_assoc old (all_octets (coordinate_numbers (take k words))) (all_octets one)
     ∙ ap (λ (xs : List ℕ). old ++ xs) (sym (all_octets-append (coordinate_numbers (take k words)) one) ∙ ap all_octets (sym more))
 
-last_false : (a b : Bool) → (a || b) ≡ false → b ≡ false
-last_false true b e = cc e
-last_false false b e = e
-
 -- the next place is not beyond the last
 pub not_last : (word k : ℕ) → k ≤ 255 → is_lost word (k + 1) ≡ false → k + 1 ≤ 255
-not_last word k le is = let ne = eqb-false (k + 1) 256 (last_false (is_none (ibm_of word)) (k + 1 == 256) is) in omega (arith, ne)
+not_last word k le is = let ne = eqb-false (k + 1) 256 (right_false (is_none (ibm_of word)) (k + 1 == 256) is) in omega (arith, ne)
 
 few_by : (i word : ℕ) (words : List ℕ) (b : Bool) → is_lost word i ≡ b → cond b (Some (Coordinate i)) (coordinate_loss_from (i + 1) words) ≡ None → i ≤ 256
     → (coordinate_loss_from (i + 1) words ≡ None → i + 1 ≤ 256 → i + 1 + length words ≤ 256) → i + suc (length words) ≤ 256
 few_by i word words true is e le rest = cc e
 few_by i word words false is e le rest =
-    let ne = eqb-false i 256 (last_false (is_none (ibm_of word)) (i == 256) is) in
+    let ne = eqb-false i 256 (right_false (is_none (ibm_of word)) (i == 256) is) in
     let more : i + 1 + length words ≤ 256 = rest e (omega (arith, ne)) in
     omega arith
 
@@ -67,7 +64,7 @@ few_from i (word ∷ words) e le = few_by i word words (is_lost word i) refl e l
 pub few_coordinates : (words : List ℕ) → coordinate_loss_from 1 words ≡ None → length words ≤ 255
 few_coordinates words e = let few = few_from 1 words e (omega arith) in omega arith
 
--- ---- rows
+-- ---- rules
 
 pub row_written : (rows : List ℕ) (k : ℕ) (old before now : List ℕ) → k < length rows → before ≡ old ++ numbers_octets 2 (take k rows)
     → now ≡ before ++ octets_of 2 (get_or rows k 0) → now ≡ old ++ numbers_octets 2 (take (k + 1) rows)

@@ -6,7 +6,7 @@ use Rattle.grib_bits.specs.Bits.{bits, bits_of}
 use Rattle.grib_bits.specs.Written.{padding}
 use Rattle.grib_bits.proofs.OctetBits.{length-bits}
 use Rattle.grib_bits.proofs.Numbers.{length-bits_of}
-use Rattle.grib_base.specs.Rows.{first_place}
+use Rattle.grib_base.specs.Rules.{first_place}
 use Rattle.grib_packing.specs.declared.column.Column.{Column}
 use Rattle.grib_packing.specs.Misfits as misfits
 use Rattle.grib_packing.specs.Misfits.{ToSimple, SecondaryMissing, OutOfRange, DifferenceRange, first_misfit, is_missing, is_missing2, is_scaled_outside}

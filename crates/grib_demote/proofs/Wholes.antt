@@ -1,6 +1,7 @@
 -- The message of edition 1 as a whole, and the first loss of a field.
 use Rattle.std.proofs.Common.{◌≡◌, ℕ, Bool, Option, Some, None, List, ◌++◌, length, sym, ap, subst, ◌∙◌}
 use Rattle.std.specs.Prelude.{Result, Ok, Err, MatchResult}
+use Rattle.grib_base.specs.Rules.{or_later}
 use Rattle.grib2_sections.specs.Head.{discipline}
 use Rattle.grib2_grids.specs.Grid.{grid_points}
 use Rattle.grib2_products.specs.Spelled.{coordinate_list}
@@ -15,7 +16,7 @@ use Rattle.grib_demote.specs.declared.demotion.DemoteFault.{DemoteFault}
 use Rattle.grib_demote.specs.declared.product.Told.{Told}
 use Rattle.grib_demote.specs.Answered.{IsDemoteFault}
 use Rattle.grib_demote.specs.Losses.{first_of, product_losses}
-use Rattle.grib_demote.specs.Demoted.{told_in, grid_octets, all_sections, demoted_sections, message_with, length_loss, or_later}
+use Rattle.grib_demote.specs.Demoted.{told_in, grid_octets, all_sections, demoted_sections, message_with, length_loss}
 use Rattle.grib_demote.proofs.Joining.{first_lost, later_lost}
 
 module _ (xs ys zs : List (Option Demotion)) (later : Unit {0} → Option Demotion) where

@@ -1,12 +1,14 @@
 -- Which IBM word a binary32 word has.
-use Rattle.std.proofs.Common.{◌≡◌, ℕ, zero, suc, ◌+◌, ◌*◌, ◌/◌, ◌%◌, ◌^◌, ◌<◌, ◌≤◌, ◌⊎◌, ◌==◌, ◌&&◌, Bool, true, false, cond, Option, Some, None, find, nat_lt, pos, neg_ℤ, ◌-ℤ◌, ◌*ℤ◌, ◌≤ℤ◌, nat_abs, refl, sym, ap, ◌∙◌, subst, arith, inl, inr, eqb-true, eq-eqb, ltb-true, lt-ltb, ne_eqb}
+use Rattle.std.proofs.Common.{◌≡◌, ℕ, zero, suc, ◌+◌, ◌*◌, ◌/◌, ◌%◌, ◌^◌, ◌<◌, ◌≤◌, ◌⊎◌, ◌==◌, Bool, true, false, cond, Option, Some, None, find, nat_lt, pos, neg_ℤ, ◌-ℤ◌, ◌*ℤ◌, ◌≤ℤ◌, nat_abs, refl, sym, ap, ◌∙◌, subst, arith, inl, inr, eqb-true, eq-eqb, ltb-true, lt-ltb, ne_eqb}
 use Rattle.std.specs.Prelude.{IfSome, IfNone, option_map}
 use Rattle.std.proofs.Math.Nat.{eq-zero-or-pos, mul-mod_left, mod-eq-sub-div-mul, div-mul-le_self, mul-div_cancel, mul-le-mul_right}
 use Rattle.std.proofs.lemmas.Nat.{pow_pos, pow-add}
 use Rattle.std.proofs.lemmas.Int.{ints}
-use Rattle.std.proofs.lemmas.Bool.{cases_lt}
+use Rattle.std.proofs.lemmas.Bool.{cases_lt, and_from}
 use Rattle.std.specs.List.{range_with_len}
 use Rattle.grib_bits.specs.Binary32.{ieee_sign, ieee_exponent, ieee_fraction}
+use Rattle.grib_bits.proofs.Logic.{left_true, right_true}
+use Rattle.grib_bits.proofs.Arithmetic.{no_factor}
 use Rattle.grib_dyadic.specs.Sign.{signed}
 use Rattle.grib_dyadic.specs.Reference.{Binary, binary, with_sign, ieee, ibm, ibm_a, ibm_b, IsFinite, SameNumber}
 use Rattle.grib_dyadic.proofs.Numbers.{scaled, SameNumber-scaled, SameNumber-from_scaled, SameNumber_sym, SameNumber_trans}
@@ -95,15 +97,12 @@ rebuilt x small = omega arith
 split : (a : ℕ) → 2 ^ (4 * a + 24) ≡ 2 ^ (4 * a) * 2 ^ 24
 split a = pow-add 2 (4 * a) 24
 
-both : (a b : Bool) → a ≡ true → b ≡ true → (a && b) ≡ true
-both a b e f = rw (e, f) refl
-
 stands_from : (n a b : ℕ) → b * 2 ^ (4 * a) ≡ n → b < 2 ^ 24 → stands_at n a ≡ true
 stands_from n a b is low =
     let q = 2 ^ (4 * a) in
     let whole : n % q ≡ 0 = sym (ap (λ m. m % q) is) ∙ mul-mod_left b q in
     let step : suc b * q ≤ 2 ^ 24 * q = mul-le-mul_right q low in
-    both (n % q == 0) (nat_lt n (2 ^ (4 * a + 24))) (eq-eqb (n % q) 0 whole) (lt-ltb n (2 ^ (4 * a + 24)) (by q is step (pow_pos (4 * a)) (split a)))
+    and_from (n % q == 0) (nat_lt n (2 ^ (4 * a + 24))) (eq-eqb (n % q) 0 whole) (lt-ltb n (2 ^ (4 * a + 24)) (by q is step (pow_pos (4 * a)) (split a)))
   where
     by : (q : ℕ) → b * q ≡ n → suc b * q ≤ 2 ^ 24 * q → 0 < q → 2 ^ (4 * a + 24) ≡ q * 2 ^ 24 → n < 2 ^ (4 * a + 24)
     by q is step some e = omega arith
@@ -112,19 +111,11 @@ record Stands (n a : ℕ) : Type 0 where
   whole : n / 2 ^ (4 * a) * 2 ^ (4 * a) ≡ n
   low : n / 2 ^ (4 * a) < 2 ^ 24
 
-both_0 : (a b : Bool) → (a && b) ≡ true → a ≡ true
-both_0 true b e = refl
-both_0 false b e = cc e
-
-both_1 : (a b : Bool) → (a && b) ≡ true → b ≡ true
-both_1 true b e = e
-both_1 false b e = cc e
-
 stands_is : (n a : ℕ) → stands_at n a ≡ true → Stands n a
 stands_is n a e =
     let q = 2 ^ (4 * a) in
-    let none = eqb-true (n % q) 0 (both_0 (n % q == 0) (nat_lt n (2 ^ (4 * a + 24))) e) in
-    let low = ltb-true n (2 ^ (4 * a + 24)) (both_1 (n % q == 0) (nat_lt n (2 ^ (4 * a + 24))) e) in
+    let none = eqb-true (n % q) 0 (left_true (n % q == 0) (nat_lt n (2 ^ (4 * a + 24))) e) in
+    let low = ltb-true n (2 ^ (4 * a + 24)) (right_true (n % q == 0) (nat_lt n (2 ^ (4 * a + 24))) e) in
     let times : n / q * q ≡ n = omega (arith, mod-eq-sub-div-mul n q, div-mul-le_self n q, none) in
     record { whole = times; low = below (n / q) q times (pow_pos (4 * a)) low (split a) }
   where
@@ -226,13 +217,6 @@ zero_is word finite z =
 signed_zero : (b : Bool) → signed b 0 ≡ pos 0
 signed_zero true = refl
 signed_zero false = refl
-
-no_factor : (a q : ℕ) → 0 < q → a * q ≡ 0 → a ≡ 0
-no_factor a q some e = by (eq-zero-or-pos a)
-  where
-    by : (a ≡ 0) ⊎ (0 < a) → a ≡ 0
-    by (inl z) = z
-    by (inr h) = let more : 1 * q ≤ a * q = mul-le-mul_right q h in absurd (omega arith)
 
 zero_parts : (word : ℕ) (subnormal : Bool) → units word subnormal ≡ 0 → (parts word subnormal).mantissa ≡ pos 0
 zero_parts word true z = ap (λ b. with_sign (ieee_sign word) b) (no_factor (ieee_fraction word) (2 ^ 131) (pow_pos 131) z) ∙ signed_zero (ieee_sign word == 1)

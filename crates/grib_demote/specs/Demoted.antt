@@ -2,6 +2,7 @@
 use Rattle.std.specs.Prelude.{ℕ, ◌+◌, Bool, Option, Some, None, List, ◌∷◌, ◌++◌, length, nat_lt, unwrap_or, option_map}
 use Rattle.grib_bits.specs.Encoding.{octets_of, all_octets, section1_of}
 use Rattle.grib_bits.specs.Listed.{numbers_octets}
+use Rattle.grib_base.specs.Rules.{or_later}
 use Rattle.grib2_sections.specs.Head.{indicator, end_mark, discipline}
 use Rattle.grib_params.specs.declared.matching.TableMatch.{TableMatch}
 use Rattle.grib_params.specs.Table.{Entries}
@@ -66,11 +67,6 @@ demoted table matching keep_local message i = message_with (demoted_sections tab
 -- a message of edition 1 has 16,777,215 octets at most
 abbrev pub length_loss : ℕ → Option Demotion
 length_loss total = lost_where (nat_lt 16777215 total) (losses.TooLong total)
-
--- a later loss counts where there is no earlier one, and is not looked for elsewhere
-abbrev pub or_later : Option Demotion → (Unit {0} → Option Demotion) → Option Demotion
-or_later (Some loss) later = Some loss
-or_later None later = later tt
 
 -- the first loss of field i
 abbrev pub first_loss : Entries → TableMatch → Bool → Bool → List ℕ → ℕ → Option Demotion

@@ -5,7 +5,7 @@ use Rattle.std.specs.Prelude.{ℕ, ◌+◌, ◌*◌, ◌/◌, ◌%◌, Bool, tru
 use Rattle.std.specs.List.{list_any}
 use Rattle.std.specs.Option.{option_map_or}
 use Rattle.grib_bits.specs.Octets.{octets}
-use Rattle.grib_base.specs.Rows.{choose}
+use Rattle.grib_base.specs.Rules.{choose}
 use Rattle.grib2_products.specs.Product.{product_template}
 use Rattle.grib_migrate.specs.Times.{UnitRow, unit_rows}
 use Rattle.grib_demote.specs.declared.time.TimeRange.{TimeRange}

@@ -4,13 +4,13 @@ use Rattle.std.specs.Prelude.{unwrap_or, is_some}
 use Rattle.std.specs.List.{list_any}
 use Rattle.grib_bits.proofs.OctetBits.{length-bits}
 use Rattle.grib_bits.proofs.Listed.{AreOctets-from_All}
-use Rattle.grib_base.specs.Rows.{first_fault, first_place}
+use Rattle.grib_base.specs.Rules.{first_fault, first_place}
 use Rattle.grib_bitmap.specs.Mask.{present_count}
 use Rattle.grib_base.specs.declared.profile.Profile.TheVariants.{Stated, Open}
 use Rattle.grib2_sections.specs.Head.{discipline}
 use Rattle.grib2_grids.specs.Grid as grid2
-use Rattle.grib2_grids.proofs.Under.{same_grid_rows}
-use Rattle.grib2_products.proofs.Under.{same_product_rows}
+use Rattle.grib2_grids.proofs.Under.{same_grid_rules}
+use Rattle.grib2_products.proofs.Under.{same_product_rules}
 use Rattle.grib2_products.specs.Spelled.{coordinate_list}
 use Rattle.grib2_message.specs.Fields.{part_octets, field_mask, column_of}
 use Rattle.grib2_message.specs.Message.{FieldReads, FieldReadsUnder}
@@ -29,14 +29,14 @@ use Rattle.grib_packing.proofs.Left.{padded-more}
 use Rattle.grib_packed.specs.Written.{packed}
 use Rattle.grib_packed.proofs.Written.{simple_written}
 use Rattle.grib_simple.proofs.Fitting.{width_few}
-use Rattle.grib_demote_law.proofs.Bitmaps.{count_present}
+use Rattle.grib_simple.proofs.Bitmaps.{count_present}
 use Rattle.grib_repack.specs.Repacked.{kind_of, packed_field}
 use Rattle.grib_repack.proofs.Columns.{column_long, may_be_packed, has_words, kind_small}
 use Rattle.grib_params.specs.declared.matching.TableMatch.{TableMatch}
 use Rattle.grib_params.specs.Table.{Entries}
 use Rattle.grib1_sections.specs.Acceptance.{verdict_1}
 use Rattle.grib1_sections.specs.Bitmap.{mask_of}
-use Rattle.grib1_sections.specs.Data.{data_rows}
+use Rattle.grib1_sections.specs.Data.{data_rules}
 use Rattle.grib1_sections.specs.Identification.{flags_bitmap}
 use Rattle.grib1_sections.specs.Grid.{grid_points}
 use Rattle.grib1_sections.specs.Grammar.{IsSection, IsBitmap, Grammar1}
@@ -88,8 +88,8 @@ module _ (table : Entries) (matching : TableMatch) (keep any : Bool) (message : 
   pub passes : FieldReadsUnder Stated message i
   passes = record {
     identification = reads.identification;
-    grid = ap first_fault (sym (same_grid_rows Open (part 3) kept.product.stated)) ∙ reads.grid;
-    product = ap first_fault (sym (same_product_rows Open (part 4) 1 (stated_product (part 4) kept.product.product))) ∙ reads.product;
+    grid = ap first_fault (sym (same_grid_rules Open (part 3) kept.product.stated)) ∙ reads.grid;
+    product = ap first_fault (sym (same_product_rules Open (part 4) 1 (stated_product (part 4) kept.product.product))) ∙ reads.product;
     packing = reads.packing;
     values = reads.values;
   }
@@ -165,7 +165,7 @@ module _ (table : Entries) (matching : TableMatch) (keep any : Bool) (message : 
       let all = fields (simple_width column.points) (simple_numbers column.points) in
       omega (arith, length-bits (drop 5 values.section7), ap length bits_are, padded-more all, length-fields (simple_width column.points) (simple_numbers column.points))
 
-  data_is : IsSection 11 (data_rows (length (simple_numbers column.points))) d
+  data_is : IsSection 11 (data_rules (length (simple_numbers column.points))) d
   data_is =
       is_section_4 (part 5) values (simple_width column.points) (length (simple_numbers column.points)) simple.numbers.bit_width_stands simple.numbers.values_stand
       (width_few column.points kept.column) room (omega (arith, all_short))
@@ -177,7 +177,7 @@ module _ (table : Entries) (matching : TableMatch) (keep any : Bool) (message : 
       let is_b = grid_is_section (part 3) words passes.grid kept.product.template kept.shape.numbers kept.shape.rows few_words bounds.0 bounds.1 (omega (arith, all_short)) in
       let flagged : is_some c ≡ flags_bitmap a = section_3-some values n ∙ sym (flags_it told (part 1) (part 4) (part 5) local (has_bitmap values)) in
       let is_c : IsBitmap (grid_points b) c = subst (λ (k : ℕ). IsBitmap k c) (sym grid_points_are) bitmap_is.passes in
-      let is_d : IsSection 11 (data_rows (present_count (mask_of c (grid_points b)))) d = subst (λ (k : ℕ). IsSection 11 (data_rows k) d) (sym values_are) data_is in
+      let is_d : IsSection 11 (data_rules (present_count (mask_of c (grid_points b)))) d = subst (λ (k : ℕ). IsSection 11 (data_rules k) d) (sym values_are) data_is in
       let short : length (message_with (a ++ (b ++ (unwrap_or c [] ++ d)))) ≤ 16777215 =
       subst (λ (xs : List ℕ). length (message_with xs) ≤ 16777215) joined kept.short in
       subst (λ (xs : List ℕ). Grammar1 (message_with xs) (record { identification = a; grid = b; bitmap = c; data_section = d })) (sym joined)

@@ -1,22 +1,18 @@
 -- Angles that are written in three octets come back.
-use Rattle.std.proofs.Common.{◌≡◌, ◌≢◌, ◌⊎◌, ℕ, ◌+◌, ◌-◌, ◌*◌, ◌/◌, ◌%◌, ◌^◌, ◌<◌, ◌≤◌, ◌&&◌, Bool, true, false, cond, nat_lt, refl, sym, ap, ◌∙◌, subst, arith, inl, inr, eqb-true, ltb-true, lt-ltb, le-ltb}
-use Rattle.std.proofs.lemmas.Bool.{cases_eq, ltb-false}
+use Rattle.std.proofs.Common.{◌≡◌, ◌≢◌, ◌⊎◌, ℕ, ◌+◌, ◌-◌, ◌*◌, ◌/◌, ◌%◌, ◌^◌, ◌<◌, ◌≤◌, Bool, true, false, cond, nat_lt, refl, sym, ap, ◌∙◌, subst, arith, inl, inr, eqb-true, ltb-true, lt-ltb, le-ltb}
+use Rattle.std.proofs.lemmas.Bool.{cases_eq, ltb-false, and_parts}
 use Rattle.grib_bits.specs.Bits.{bits_of, signed}
 use Rattle.grib_migrate.specs.Grids as migrate
 use Rattle.grib_demote.specs.Grids.{angle, longitude, angle_fits, longitude_fits, is_thousands}
 
 -- ---- longitudes
 
-both : (a b : Bool) → (a && b) ≡ true → (a ≡ true) × (b ≡ true)
-both true b e = (refl, e)
-both false b e = let no : ⊥ = cc e in absurd no
-
 plain : (m : ℕ) → m < 2 ^ 23 → (migrate.is_negative m ≡ false) × (migrate.magnitude m ≡ m)
 plain m few = (le-ltb (2 ^ 23) m (omega (arith, few)), omega (arith, few))
 
 pub longitude_back : (v : ℕ) → longitude_fits v ≡ true → (migrate.longitude (longitude v) ≡ v) × (v < 2 ^ 31)
 longitude_back v fits =
-    let parts = both (nat_lt v (2 ^ 31)) (is_thousands v) fits in
+    let parts = and_parts (nat_lt v (2 ^ 31)) (is_thousands v) fits in
     let low = ltb-true v (2 ^ 31) parts.0 in
     let whole = eqb-true (v % 1000) 0 parts.1 in
     let known = plain (v / 1000) (omega (arith, low)) in (

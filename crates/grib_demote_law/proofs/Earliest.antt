@@ -6,12 +6,13 @@ use Rattle.std.specs.declared.cmp.Ordering.TheVariants.{Less, Equal, Greater}
 use Rattle.std.specs.Ordering.{is_eq, nat_cmp, ordering_then}
 use Rattle.std.specs.Option.{option_cmp, option_map_or, option_or}
 use Rattle.std.specs.Map.{lookup}
+use Rattle.std.proofs.lemmas.Bool.{and_parts}
 use Rattle.grib_params.specs.declared.row.Target.{Target}
 use Rattle.grib_params.specs.declared.matching.TableMatch.TheVariants.{Same, Any}
 use Rattle.grib_params.specs.Fields.{Key}
 use Rattle.grib_params.specs.Table.{Entries, key_cmp, lookup_in, target_at}
 use Rattle.grib_params.specs.Pairs.{Pair, is_before, same_target, matches, pair_of, has_target, is_among, earlier, first_pair}
-use Rattle.grib_demote_law.proofs.Pairs.{both, target_is, same_is, any_is, first_finds}
+use Rattle.grib_demote_law.proofs.Pairs.{target_is, same_is, any_is, first_finds}
 
 -- ---- the order of pairs
 
@@ -75,7 +76,7 @@ earlier_pair first pair = by (is_before pair first) refl
     by true e = at_most pair
     by false e = not_before pair first e
 
--- what is no later than both is no later than the earlier of them
+-- what is no later than and_parts is no later than the earlier of them
 to_earlier : (a first pair : Pair) → AtMost a first → AtMost a pair → AtMost a (earlier (Some first) pair)
 to_earlier a first pair x y = by (is_before pair first)
   where
@@ -83,7 +84,7 @@ to_earlier a first pair x y = by (is_before pair first)
     by true = y
     by false = x
 
--- ---- the first pair of the rows that pass a test
+-- ---- the first pair of the rules that pass a test
 
 abbrev with : (Key × Target → Bool) → Option Pair → Key × Target → Option Pair
 with test first row = if test row then Some (earlier first (pair_of row.0)) else first
@@ -195,7 +196,7 @@ module _ (table : Entries) (centre : ℕ) (parameter target : Target) (stands : 
   among : (row : Key × Target) → is_among table Same centre target row ≡ true → is_among table Any centre parameter row ≡ true
   among row e =
       let pair = pair_of row.0 in
-      let parts = both (matches Same target row.1) (has_target table Same centre target pair) e in
+      let parts = and_parts (matches Same target row.1) (has_target table Same centre target pair) e in
       ap₂ (λ (x y : Bool). x && y) (own_stands row.1 parts.0) (own_has (lookup_in table centre pair.0 pair.1) parts.1)
 
   own_row : (pair : Pair) → lookup_in table centre pair.0 pair.1 ≡ Some target → (row : Key × Target) → pair ≡ pair_of row.0 → row.1 ≡ target

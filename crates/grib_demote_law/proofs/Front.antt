@@ -7,13 +7,13 @@ use Rattle.grib_bits.specs.Octets.{octets}
 use Rattle.grib_bits.proofs.Encoding.{num_on-octets_of}
 use Rattle.grib_bits.proofs.OctetBits.{AreOctets}
 use Rattle.grib_bits.proofs.OctetNumbers.{octets-lt}
-use Rattle.grib_base.specs.Rows.{choose}
+use Rattle.grib_base.specs.Rules.{choose}
 use Rattle.grib_params.specs.declared.matching.TableMatch.{TableMatch}
 use Rattle.grib_params.specs.Table.{Entries, lookup_in}
 use Rattle.grib_params.specs.Pairs.{first_pair}
 use Rattle.grib_params.specs.declared.row.Target.{Target}
 use Rattle.grib1_sections.specs.Keys.{key_in}
-use Rattle.grib1_sections.specs.declared.key.Key1.TheVariants.{Version, Centre, Parameter, LevelType, Level as LevelNumber, YearOfCentury, Month, Day, Hour, Minute, Unit as TimeUnit, P1, P2, TimeRange, AverageCount, AverageMissing, Century}
+use Rattle.grib_keys.specs.declared.key1.Key1.TheVariants.{Version, Centre, Parameter, LevelType, Level as LevelNumber, YearOfCentury, Month, Day, Hour, Minute, Unit as TimeUnit, P1, P2, TimeRange, AverageCount, AverageMissing, Century}
 use Rattle.grib_migrate.specs.declared.date.Moment.{Moment}
 use Rattle.grib_migrate.specs.Dates as dates
 use Rattle.grib_migrate.specs.Dates.{is_civil, later, later_in, within_9999}
@@ -61,10 +61,6 @@ has_unit s4 some =
     unit_known (0 == code) (1 == code) (2 == code) (10 == code) (11 == code) (12 == code) (13 == code) some
 
 -- ---- the time range
-
-both_true : (a b : Bool) → (a && b) ≡ true → (a ≡ true) × (b ≡ true)
-both_true true b e = (refl, e)
-both_true false b e = let no : ⊥ = cc in absurd no
 
 -- a time range of edition 1 that loses nothing
 pub record IsRange (indicator p1 p2 gone : ℕ) (interval : Bool) : Type 0 where

@@ -1,4 +1,4 @@
--- Section 2 as it is written passes its rows.
+-- Section 2 as it is written passes its rules.
 use Rattle.std.proofs.Common.{◌≡◌, ℕ, ◌+◌, ◌-◌, ◌*◌, ◌^◌, ◌<◌, ◌≤◌, ◌&&◌, ◌||◌, ◌==◌, Bool, true, false, not, cond, List, [], ◌∷◌, ◌++◌, length, get_or, sum, nat_lt, refl, sym, ap, ap₂, ◌∙◌, arith, lt-ltb, le-ltb, eq-eqb, ne_eqb, length-append, append_assoc}
 use Rattle.grib_bits.specs.Encoding.{octets_of, all_octets, section1_of}
 use Rattle.grib_bits.specs.Listed.{numbers_octets, numbers_at}
@@ -7,7 +7,7 @@ use Rattle.grib_bits.proofs.Listed.{numbers_at-behind}
 use Rattle.grib_base.proofs.Passing.{none_from_passes}
 use Rattle.grib_base.specs.declared.limits.TheConstants.{MOST_POINTS}
 use Rattle.grib2_sections.specs.Template.{is_template, least_length}
-use Rattle.grib1_sections.specs.Grid.{grid_types, grid_rows, grid_type, grid_points, nv, ni, nj, list_place, lists_rows, has_list, row_count, row_list, lists_end, is_regular}
+use Rattle.grib1_sections.specs.Grid.{grid_types, grid_rules, grid_type, grid_points, nv, ni, nj, list_place, lists_rows, has_list, row_count, row_list, lists_end, is_regular}
 use Rattle.grib1_sections.specs.Grammar.{IsSection}
 use Rattle.grib_bits.specs.declared.adding.Number.{Number}
 use Rattle.grib_bits.specs.declared.adding.Number.TheVariants.{One, Two}
@@ -161,11 +161,11 @@ module _ (count start t columns rows : ℕ) (listed : Bool) (numbers coordinates
     points_row : (grid_points s == 0 || nat_lt MOST_POINTS (grid_points s)) ≡ false
     points_row = ap₂ ◌||◌ (ne_eqb (grid_points s) 0 (λ none. omega (arith, total, none, some))) (le-ltb MOST_POINTS (grid_points s) (omega (arith, total, few)))
 
-    pub is_section_2 : length s ≤ 16777215 → IsSection 6 grid_rows s
+    pub is_section_2 : length s ≤ 16777215 → IsSection 6 grid_rules s
     is_section_2 short = record {
       length_stands = stands (all_octets (header_with count place t columns rows) ++ (numbers ++ (coordinates ++ list))) (omega (arith, short));
       long = omega (arith, length_2);
-      rows_hold = none_from_passes (grid_rows s) (known_row, (length_row, (rows_row, (regular_row, (place_row, (lists_row, (points_row, tt)))))));
+      rules_hold = none_from_passes (grid_rules s) (known_row, (length_row, (rows_row, (regular_row, (place_row, (lists_row, (points_row, tt)))))));
     }
 
   pub plain_points : listed ≡ false → grid_points s ≡ columns * rows

@@ -12,7 +12,7 @@ use Rattle.grib2_sections.specs.Template.{least_length}
 use Rattle.grib2_products.specs.Opaque.{is_opaque_product}
 use Rattle.grib2_products.specs.Product.{product_template, product_templates, product_length, time_ranges, coordinate_count}
 use Rattle.grib1_sections.specs.Keys.{key_in}
-use Rattle.grib1_sections.specs.declared.key.Key1.TheVariants.{P1, P2, TimeRange, Unit as TimeUnit}
+use Rattle.grib_keys.specs.declared.key1.Key1.TheVariants.{P1, P2, TimeRange, Unit as TimeUnit}
 use Rattle.grib_migrate.specs.declared.date.Moment.{Moment}
 use Rattle.grib_migrate.specs.declared.level.Surfaces.{Surfaces}
 use Rattle.grib_migrate.specs.declared.time.Unit.{Unit as UnitOfTime}

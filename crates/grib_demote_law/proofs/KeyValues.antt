@@ -12,7 +12,7 @@ use Rattle.grib_keys.specs.declared.table.Kind.{Kind}
 use Rattle.grib_keys.specs.declared.table.Octets.{Octets}
 use Rattle.grib_keys.specs.Keys.{unless_opaque, instant_place}
 use Rattle.grib2_grids.specs.Opaque.{is_opaque_grid}
-use Rattle.grib2_products.specs.Opaque.{instant_shift}
+use Rattle.grib2_sections.specs.Instant.{instant_shift}
 use Rattle.grib_select.specs.Values.{is_all_ones, layout_of, value_at}
 
 -- a number without a sign

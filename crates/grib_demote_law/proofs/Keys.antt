@@ -30,7 +30,7 @@ use Rattle.grib1_sections.specs.Acceptance.{identification, grid}
 use Rattle.grib1_sections.specs.Grid as grid1
 use Rattle.grib1_sections.specs.Coordinates as coordinates1
 use Rattle.grib1_sections.specs.Keys.{key_in}
-use Rattle.grib1_sections.specs.declared.key.Key1.TheVariants.{Centre}
+use Rattle.grib_keys.specs.declared.key1.Key1.TheVariants.{Centre}
 use Rattle.grib_migrate.specs.Levels.{surfaces_of, surfaces_at}
 use Rattle.grib_migrate.specs.Times as times
 use Rattle.grib_migrate.specs.Grids.{grid_octets as migrated_grid}

@@ -5,7 +5,7 @@ use Rattle.grib_bits.proofs.Encoding.{num_on-octets_of}
 use Rattle.grib_bits.proofs.OctetBits.{AreOctets}
 use Rattle.grib_params.specs.declared.row.Target.{Target}
 use Rattle.grib1_sections.specs.Keys.{key_in}
-use Rattle.grib1_sections.specs.declared.key.Key1.TheVariants.{Centre, SubCentre, Process}
+use Rattle.grib_keys.specs.declared.key1.Key1.TheVariants.{Centre, SubCentre, Process}
 use Rattle.grib_migrate.specs.declared.date.Moment.{Moment}
 use Rattle.grib_migrate.specs.Dates as dates
 use Rattle.grib_migrate.proofs.Later.{civil_parts}

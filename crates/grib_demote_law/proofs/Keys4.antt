@@ -8,7 +8,7 @@ use Rattle.grib_bits.proofs.Encoding.{num_on-octets_of}
 use Rattle.grib_params.specs.declared.row.Target.{Target}
 use Rattle.grib2_products.specs.Product.{product_template}
 use Rattle.grib1_sections.specs.Keys.{key_in}
-use Rattle.grib1_sections.specs.declared.key.Key1.TheVariants.{Process, TimeRange, Level as LevelNumber}
+use Rattle.grib_keys.specs.declared.key1.Key1.TheVariants.{Process, TimeRange, Level as LevelNumber}
 use Rattle.grib_migrate.specs.declared.level.Surfaces.{Surfaces}
 use Rattle.grib_migrate.specs.declared.time.Unit.{Unit as UnitOfTime}
 use Rattle.grib_migrate.specs.Levels.{surfaces_of, surfaces_at}

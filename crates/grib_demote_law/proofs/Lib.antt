@@ -3,7 +3,6 @@ mod Joined
 mod Identification
 mod Grids
 mod Template
-mod Bitmaps
 mod Values
 mod Accepted
 mod Pairs

@@ -2,6 +2,7 @@
 use Rattle.std.proofs.Common.{◌≡◌, ℕ, ◌≤◌, Bool, true, false, not, ◌&&◌, Option, Some, None, List, [], ◌∷◌, ◌++◌, length, nat_lt, refl}
 use Rattle.std.specs.Prelude.{is_none, option_map}
 use Rattle.std.proofs.lemmas.Bool.{ltb-false}
+use Rattle.grib_base.proofs.Firsts.{none_later}
 use Rattle.grib2_sections.specs.Head.{discipline}
 use Rattle.grib2_grids.specs.Grid.{grid_template}
 use Rattle.grib2_grids.specs.Opaque.{is_opaque_grid}
@@ -19,11 +20,7 @@ use Rattle.grib_demote.specs.Times.{unit_of, has_process, loses_interval}
 use Rattle.grib_demote.specs.Dates.{loses_date}
 use Rattle.grib_demote.specs.Grids.{type_of, loses_flags, loses_rows, grid_loss}
 use Rattle.grib_demote.specs.Products.{loses_centre, pair_in, has_local}
-use Rattle.grib_demote.specs.Demoted.{demoted, first_loss, length_loss, or_later}
-
-both_none : (first : Option Demotion) (later : Unit {0} → Option Demotion) → or_later first later ≡ None → (first ≡ None) × (later tt ≡ None)
-both_none None later e = (refl, e)
-both_none (Some loss) later e = let no : ⊥ = cc in absurd no
+use Rattle.grib_demote.specs.Demoted.{demoted, first_loss, length_loss}
 
 parts_none : (xs ys : List (Option Demotion)) → first_of (xs ++ ys) ≡ None → (first_of xs ≡ None) × (first_of ys ≡ None)
 parts_none [] ys e = (refl, e)
@@ -119,7 +116,7 @@ all_kept table matching keep any message i e =
     let s1 = part_octets message i 1 in
     let s3 = part_octets message i 3 in
     let s4 = part_octets message i 4 in
-    let both = both_none (first_of (field_losses table matching keep any message i)) (λ _. length_loss (length (demoted table matching keep message i))) e in
+    let both = none_later (first_of (field_losses table matching keep any message i)) (λ _. length_loss (length (demoted table matching keep message i))) e in
     let outer = parts_none (product_losses table matching (discipline message) s1 s3 s4) (shape_losses keep any message i ++ value_losses message i) both.0 in
     let front = parts_none (parameter_losses table matching (discipline message) s1 s3 s4) (time_losses s1 s4) outer.0 in
     let inner = parts_none (shape_losses keep any message i) (value_losses message i) outer.1 in

@@ -2,6 +2,8 @@
 use Rattle.std.proofs.Common.{◌≡◌, ℕ, Bool, true, false, not, ◌&&◌, ◌||◌, ◌==◌, if◌then◌else◌, Option, Some, None, [], ◌∷◌, refl, sym, ap, subst, ◌∙◌, eqb-true, eq-eqb}
 use Rattle.std.specs.Prelude.{fold}
 use Rattle.std.specs.Option.{option_map_or}
+use Rattle.std.proofs.lemmas.Bool.{and_parts}
+use Rattle.grib_bits.proofs.Logic.{if_so}
 use Rattle.grib_params.specs.declared.row.Target.{Target}
 use Rattle.grib_params.specs.declared.matching.TableMatch.{TableMatch}
 use Rattle.grib_params.specs.declared.matching.TableMatch.TheVariants.{Same, Any}
@@ -9,10 +11,6 @@ use Rattle.grib_params.specs.Fields.{Key}
 use Rattle.grib_params.specs.Table.{Entries, lookup_in}
 use Rattle.grib_params.specs.Pairs.{Pair, is_before, same_target, same_parameter, is_local, matches, pair_of, has_target, is_among, earlier, with_row, first_pair}
 use Rattle.grib_demote_law.specs.Records.{Finds}
-
-pub both : (a b : Bool) → (a && b) ≡ true → (a ≡ true) × (b ≡ true)
-both true b e = (refl, e)
-both false b e = let no : ⊥ = cc e in absurd no
 
 and_3 : (a b c : Bool) → (a && b && c) ≡ true → (a ≡ true) × (b ≡ true) × (c ≡ true)
 and_3 false b c h = let no : ⊥ = cc in absurd no
@@ -25,10 +23,6 @@ and_5 true false c d e h = let no : ⊥ = cc in absurd no
 and_5 true true false d e h = let no : ⊥ = cc in absurd no
 and_5 true true true false e h = let no : ⊥ = cc in absurd no
 and_5 true true true true e h = (refl, refl, refl, refl, h)
-
-unless : (a b : Bool) → (not a || b) ≡ true → a ≡ true → b ≡ true
-unless true b e is = e
-unless false b e is = let no : ⊥ = cc is in absurd no
 
 -- all numbers of a target are told apart
 pub target_is : (a b : Target) → same_target a b ≡ true → a ≡ b
@@ -86,13 +80,13 @@ numbers_are a b e =
 
 pub has_numbers : (matching : TableMatch) (parameter target : Target) → matches matching parameter target ≡ true → HasNumbers parameter target
 has_numbers Same parameter target e = subst (HasNumbers parameter) (target_is parameter target e) (record { discipline = refl; category = refl; number = refl })
-has_numbers Any parameter target e = numbers_are parameter target (both (same_parameter parameter target) (not (is_local parameter) || (parameter.local == target.local)) e).0
+has_numbers Any parameter target e = numbers_are parameter target (and_parts (same_parameter parameter target) (not (is_local parameter) || (parameter.local == target.local)) e).0
 
 -- the local tables, where the parameter is for local use
 pub has_local : (parameter target : Target) → matches Any parameter target ≡ true → is_local parameter ≡ true → target.local ≡ parameter.local
 has_local parameter target e is =
-    let tables = (both (same_parameter parameter target) (not (is_local parameter) || (parameter.local == target.local)) e).1 in
-    sym (eqb-true parameter.local target.local (unless (is_local parameter) (parameter.local == target.local) tables is))
+    let tables = (and_parts (same_parameter parameter target) (not (is_local parameter) || (parameter.local == target.local)) e).1 in
+    sym (eqb-true parameter.local target.local (if_so (is_local parameter) (parameter.local == target.local) tables is))
 
 -- ---- the first pair
 
@@ -114,7 +108,7 @@ module _ (table : Entries) (matching : TableMatch) (centre : ℕ) (parameter : T
   row_has first row has = by (is_among table matching centre parameter row) refl
     where
       by : (b : Bool) → is_among table matching centre parameter row ≡ b → Has (if b then Some (earlier first (pair_of row.0)) else first)
-      by true e = earlier_has first (pair_of row.0) has (both (matches matching parameter row.1) (has_target table matching centre parameter (pair_of row.0)) e).1
+      by true e = earlier_has first (pair_of row.0) has (and_parts (matches matching parameter row.1) (has_target table matching centre parameter (pair_of row.0)) e).1
       by false e = has
 
   rows_have : (rows : Entries) (first : Option Pair) → Has first → Has (fold (with_row table matching centre parameter) first rows)

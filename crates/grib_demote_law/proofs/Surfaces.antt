@@ -3,6 +3,7 @@ use Rattle.std.proofs.Common.{◌≡◌, ℕ, ◌||◌, ◌==◌, Bool, true, fa
 use Rattle.std.specs.Prelude.{option_map, find}
 use Rattle.std.specs.Option.{option_and_then, option_or, option_map_or}
 use Rattle.std.proofs.lemmas.Bool.{or_parts, not-false}
+use Rattle.std.proofs.lemmas.Option.{none-some, same_Some}
 use Rattle.grib_bits.specs.Octets.{octets}
 use Rattle.grib_migrate.specs.declared.level.Surface.{Surface}
 use Rattle.grib_migrate.specs.declared.level.Surfaces.{Surfaces}
@@ -49,12 +50,6 @@ kind_at t l a b = by (is_shared t)
 
 -- ---- the level that is found
 
-never : {A : Type 0} (a : A) → None ≡ Some a → ⊥
-never a e = cc e
-
-same_some : {A : Type 0} (a b : A) → Some a ≡ Some b → a ≡ b
-same_some a b e = cc e
-
 first_kind : (first second : Surface) (one : Surfaces) (n : ℕ) → number_by first second one ≡ Some n → one.first.kind ≡ first.kind
 first_kind first second one n e = by (not (one.first.kind == first.kind) || not (one.second.kind == second.kind)) refl e
   where
@@ -63,7 +58,7 @@ first_kind first second one n e = by (not (one.first.kind == first.kind) || not 
         (cond (one.first.scale_factor == missing_1) (cond (is_bare first) (Some 0) None)
         (cond (one.second.kind == missing_1) (number_below 65536 one.first first) (layer (number_below 256 one.first first) (number_below 256 one.second second)))) ≡ Some n
         → one.first.kind ≡ first.kind
-    by true is e = absurd (never n e)
+    by true is e = absurd (none-some n e)
     by false is e =
         eqb-true one.first.kind first.kind (not-false (one.first.kind == first.kind) (or_parts (not (one.first.kind == first.kind)) (not (one.second.kind == second.kind)) is).0)
 
@@ -72,17 +67,17 @@ with_kind first second t found e = by (surfaces_at t 1 1 1) refl e
   where
     numbered : (one : Surfaces) → surfaces_at t 1 1 1 ≡ Some one → (o : Option ℕ) → number_by first second one ≡ o → option_map (level t) o ≡ Some found
         → kind_of (surfaces_at found.level_type 1 1 1) ≡ first.kind
-    numbered one is None at e = absurd (never found e)
+    numbered one is None at e = absurd (none-some found e)
     numbered one is (Some n) at e =
-        ap (λ (l : Level). kind_of (surfaces_at l.level_type 1 1 1)) (sym (same_some (level t n) found e)) ∙ ap kind_of is ∙ first_kind first second one n at
+        ap (λ (l : Level). kind_of (surfaces_at l.level_type 1 1 1)) (sym (same_Some (level t n) found e)) ∙ ap kind_of is ∙ first_kind first second one n at
 
     by : (o : Option Surfaces) → surfaces_at t 1 1 1 ≡ o → option_map (level t) (option_and_then (number_by first second) o) ≡ Some found
         → kind_of (surfaces_at found.level_type 1 1 1) ≡ first.kind
-    by None is e = absurd (never found e)
+    by None is e = absurd (none-some found e)
     by (Some one) is e = numbered one is (number_by first second one) refl e
 
 among_kind : (first second : Surface) (types : List ℕ) (found : Level) → level_among first second types ≡ Some found → kind_of (surfaces_at found.level_type 1 1 1) ≡ first.kind
-among_kind first second [] found e = absurd (never found e)
+among_kind first second [] found e = absurd (none-some found e)
 among_kind first second (t ∷ types) found e = by (level_with first second t) refl e (among_kind first second types found)
   where
     by : (o : Option Level) → level_with first second t ≡ o → option_or o (level_among first second types) ≡ Some found

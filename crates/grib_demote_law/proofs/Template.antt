@@ -4,7 +4,7 @@ use Rattle.std.specs.Prelude.{is_none, find, unwrap_or, option_map}
 use Rattle.std.proofs.lemmas.Bool.{ltb-false, not-false, or_parts}
 use Rattle.grib_bits.specs.Listed.{numbers_octets}
 use Rattle.grib_bits.proofs.Listed.{length-numbers_octets, length-numbers_at}
-use Rattle.grib_base.specs.Rows.{first_fault}
+use Rattle.grib_base.specs.Rules.{first_fault}
 use Rattle.grib_base.proofs.Passing.{passes_from_none, second_fails}
 use Rattle.grib_base.specs.declared.limits.TheConstants.{MOST_POINTS}
 use Rattle.grib2_sections.specs.Template.{is_template, least_length}
@@ -12,7 +12,7 @@ use Rattle.grib2_grids.specs.Grid as grid2
 use Rattle.grib2_grids.specs.Grid.{grid_template, list_octets, list_meaning, list_start, row_list, may_have_list}
 use Rattle.grib2_grids.proofs.Lists.{row_list-whole, row_list-none}
 use Rattle.grib2_grids.proofs.Numbers.{has_numbers}
-use Rattle.grib1_sections.specs.Grid.{grid_types, grid_rows, grid_points, is_regular}
+use Rattle.grib1_sections.specs.Grid.{grid_types, grid_rules, grid_points, is_regular}
 use Rattle.grib1_sections.specs.Grammar.{IsSection}
 use Rattle.grib_reasons.specs.declared.demotion.Demotion.TheVariants.{GridNumber}
 use Rattle.grib_bits.specs.declared.adding.Number.{Number}
@@ -119,7 +119,7 @@ second_of false b e off = e
 same_from : (m n : ℕ) → (m == n) ≡ true → m ≡ n
 same_from m n e = eqb-true m n e
 
-module _ (s words : List ℕ) (passes : first_fault (grid2.grid_rows s) ≡ None) (known : is_none (type_of (grid_template s)) ≡ false)
+module _ (s words : List ℕ) (passes : first_fault (grid2.grid_rules s) ≡ None) (known : is_none (type_of (grid_template s)) ≡ false)
     (fits : grid_loss s ≡ None) (rows_kept : loses_rows s ≡ false) (few : length words ≤ 255) where
   abbrev t : ℕ
   t = unwrap_or (type_of (grid_template s)) 0
@@ -171,7 +171,7 @@ module _ (s words : List ℕ) (passes : first_fault (grid2.grid_rows s) ≡ None
 
   may_list : is_listed s ≡ true → may_have_list (grid_template s) ≡ true
   may_list on =
-      let p = passes_from_none (grid2.grid_rows s) passes in
+      let p = passes_from_none (grid2.grid_rules s) passes in
       not-false (may_have_list (grid_template s))
       (second_fails (is_listed s) (not (may_have_list (grid_template s)))
       (or_parts (nat_lt 4 (list_octets s)) (is_listed s && not (may_have_list (grid_template s))) p.1.1.1.1.1.1.0).1 on)
@@ -210,13 +210,13 @@ module _ (s words : List ℕ) (passes : first_fault (grid2.grid_rows s) ≡ None
 
   points_by : (b : Bool) → is_listed s ≡ b → grid_points (section_by b) ≡ grid2.grid_points s
   points_by true on =
-      let p = passes_from_none (grid2.grid_rows s) passes in
+      let p = passes_from_none (grid2.grid_rules s) passes in
       listed_points (length words) start t (columns true) (grid2.nj s) numbers coordinates (row_list s) (may_stand true on) (rows_fit (row_list s) (long_rows on)) (as_many on)
       ∙ eqb-true (sum (row_list s)) (grid2.grid_points s)
       (not-false (sum (row_list s) == grid2.grid_points s)
       (second_fails (is_listed s) (not (sum (row_list s) == grid2.grid_points s)) p.1.1.1.1.1.1.1.1.1.0 on))
   points_by false off =
-      let p = passes_from_none (grid2.grid_rows s) passes in
+      let p = passes_from_none (grid2.grid_rules s) passes in
       plain_points (length words) start t (columns false) (grid2.nj s) false numbers coordinates (numbers_octets 2 (row_list s)) (may_stand false off) refl
       ∙ eqb-true (grid2.ni s * grid2.nj s) (grid2.grid_points s)
       (not-false (grid2.ni s * grid2.nj s == grid2.grid_points s)
@@ -225,7 +225,7 @@ module _ (s words : List ℕ) (passes : first_fault (grid2.grid_rows s) ≡ None
   pub points_are : grid_points (section_by (is_listed s)) ≡ grid2.grid_points s
   points_are = points_by (is_listed s) refl
 
-  pub grid_is_section : 1 ≤ grid2.grid_points s → grid2.grid_points s ≤ MOST_POINTS → length (section_by (is_listed s)) ≤ 16777215 → IsSection 6 grid_rows (section_by (is_listed s))
+  pub grid_is_section : 1 ≤ grid2.grid_points s → grid2.grid_points s ≤ MOST_POINTS → length (section_by (is_listed s)) ≤ 16777215 → IsSection 6 grid_rules (section_by (is_listed s))
   grid_is_section low high short =
       is_section_2 (length words) start t (columns (is_listed s)) (grid2.nj s) (is_listed s) numbers coordinates (numbers_octets 2 (row_list s)) (may_stand (is_listed s) refl)
       (grid2.grid_points s) low high points_are short

@@ -1,13 +1,14 @@
 -- The type of generating process, the forecast time and the unit of time come back as they were.
-use Rattle.std.proofs.Common.{◌≡◌, ◌⊎◌, ℕ, ◌+◌, ◌*◌, ◌/◌, ◌%◌, ◌<◌, ◌≤◌, ◌&&◌, ◌||◌, ◌==◌, Bool, true, false, not, cond, Option, Some, None, List, [], ◌∷◌, ◌++◌, nat_lt, refl, sym, ap, ap₂, ◌∙◌, subst, arith, inl, inr, eqb-true}
-use Rattle.std.specs.Prelude.{is_none, find}
+use Rattle.std.proofs.Common.{◌≡◌, ◌⊎◌, ℕ, ◌+◌, ◌*◌, ◌/◌, ◌%◌, ◌<◌, ◌≤◌, ◌&&◌, ◌||◌, ◌==◌, Bool, true, false, not, cond, Option, Some, None, List, ◌++◌, nat_lt, refl, sym, ap, ap₂, ◌∙◌, subst, arith, inl, inr, eqb-true}
+use Rattle.std.specs.Prelude.{is_none}
 use Rattle.std.specs.Option.{option_map_or}
 use Rattle.std.proofs.lemmas.Bool.{ltb-false}
 use Rattle.grib_bits.specs.Encoding.{octets_of}
 use Rattle.grib_bits.specs.Octets.{octets, num_on}
 use Rattle.grib_bits.proofs.Encoding.{octets_of-one}
+use Rattle.grib_bits.proofs.Logic.{or_false, found_passes}
 use Rattle.grib1_sections.specs.Keys.{key_in}
-use Rattle.grib1_sections.specs.declared.key.Key1.TheVariants.{P1, TimeRange}
+use Rattle.grib_keys.specs.declared.key1.Key1.TheVariants.{P1, TimeRange}
 use Rattle.grib_migrate.specs.Times as times
 use Rattle.grib_migrate.specs.Times.{UnitRow, unit_rows}
 use Rattle.grib_demote.specs.declared.product.Told.{Told}
@@ -32,10 +33,6 @@ not_over limit time e = ltb-false limit time (by (nat_lt limit time) refl e)
     by : (b : Bool) → nat_lt limit time ≡ b → not b ≡ true → nat_lt limit time ≡ false
     by true is e = let no : ⊥ = cc e in absurd no
     by false is e = is
-
-or_false : (b : Bool) → (b || false) ≡ true → b ≡ true
-or_false true e = refl
-or_false false e = e
 
 first_of : (b : Bool) → ((b || false) || false) ≡ true → b ≡ true
 first_of true e = refl
@@ -153,14 +150,6 @@ module _ (told : Told) (bitmapped : Bool) (s1 s4 s5 local : List ℕ) (kept : lo
       ∙ ap (λ (n : ℕ). cond ((time_range s4).indicator == 10) n (time_range s4).p1) both ∙ tells.time_is
 
 -- ---- the unit of time
-
-pub found_passes : {A : Type 0} (test : A → Bool) (xs : List A) (x : A) → find test xs ≡ Some x → test x ≡ true
-found_passes test [] x e = let no : ⊥ = cc e in absurd no
-found_passes test (y ∷ ys) x e = by (test y) refl e (found_passes test ys x)
-  where
-    by : (b : Bool) → test y ≡ b → cond b (Some y) (find test ys) ≡ Some x → (find test ys ≡ Some x → test x ≡ true) → test x ≡ true
-    by true is e later = let same : y ≡ x = cc e in ap test (sym same) ∙ is
-    by false is e later = later e
 
 pub unit_code : (s4 : List ℕ) → is_none (unit_of s4) ≡ false → option_map_or (λ r. r.unit.code) (unit_of s4) 0 ≡ octets s4 18 18
 unit_code s4 some = by (unit_of s4) refl some

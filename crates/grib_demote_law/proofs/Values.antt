@@ -1,4 +1,4 @@
--- Sections 3 and 4 as they are written pass their rows.
+-- Sections 3 and 4 as they are written pass their rules.
 use Rattle.std.proofs.Common.{◌≡◌, ℕ, ◌+◌, ◌*◌, ◌/◌, ◌%◌, ◌^◌, ◌<◌, ◌≤◌, ◌==◌, Bool, true, false, not, cond, Option, Some, None, List, [], ◌∷◌, ◌++◌, length, take, drop, replicate, nat_lt, refl, sym, ap, ◌∙◌, subst, arith, le-ltb, ne_eqb, length-append}
 use Rattle.std.specs.Prelude.{unwrap_or, is_some}
 use Rattle.std.specs.List.{list_any}
@@ -15,9 +15,9 @@ use Rattle.grib_packing.specs.Misfits.{is_missing}
 use Rattle.grib_packing.specs.Packing.{value_count, bit_width as bit_width_2}
 use Rattle.grib_packing.specs.Packed.{HasContents, padded, present_bits}
 use Rattle.grib_packing.proofs.Left.{padded-more}
-use Rattle.grib_demote_law.proofs.Bitmaps.{all_present, indicator_is, mask_bits}
-use Rattle.grib1_sections.specs.Bitmap.{bitmap_rows, bitmap_number, mask_of}
-use Rattle.grib1_sections.specs.Data.{data_rows, data_flags, bit_width}
+use Rattle.grib_simple.proofs.Bitmaps.{all_present, indicator_is, mask_bits}
+use Rattle.grib1_sections.specs.Bitmap.{bitmap_rules, bitmap_number, mask_of}
+use Rattle.grib1_sections.specs.Data.{data_rules, data_flags, bit_width}
 use Rattle.grib1_sections.specs.Grammar.{IsSection, IsBitmap}
 use Rattle.grib_bits.specs.Encoding.{all_octets, section1_of}
 use Rattle.grib_demote.specs.Values.{padding, has_bitmap, bitmap_numbers, bitmap_octets, bitmap_section, packing_numbers, data_octets, data_section}
@@ -62,7 +62,7 @@ module _ (points : List Point) (values : Packed) (n : ℕ) (long : length points
   length_bitmap = omega (arith, length-append octets_6 tail)
 
   own_is : HasContents 6 values.section6 (bits_of 8 0 ++ present_bits points) → length bitmap ≤ 16777215
-      → (IsSection 6 (bitmap_rows n) bitmap) × (mask_of (Some bitmap) n ≡ present_bits points)
+      → (IsSection 6 (bitmap_rules n) bitmap) × (mask_of (Some bitmap) n ≡ present_bits points)
   own_is h short =
       let present = present_bits points in
       let as_many : length present ≡ n = length-map points (λ point. not (is_missing point)) ∙ long in
@@ -76,7 +76,7 @@ module _ (points : List Point) (values : Packed) (n : ℕ) (long : length points
         record {
           length_stands = stands (bitmap_octets values n) (omega (arith, short));
           long = omega (arith, length_bitmap);
-          rows_hold = none_from_passes (bitmap_rows n bitmap) (
+          rules_hold = none_from_passes (bitmap_rules n bitmap) (
             ap (λ (k : ℕ). not (k == 0)) zero,
             (le-ltb (8 * length bitmap) (n + 48) (omega (arith, length_bitmap, room)), tt),
           );
@@ -160,13 +160,13 @@ module _ (s5 : List ℕ) (values : Packed) (w n : ℕ) (width_is : bit_width_2 v
   width_stands : bit_width written_4 ≡ w
   width_stands = num_on-octets_of 1 (bit_width_2 values.section5) (omega (arith, width_is, few_bits)) ∙ width_is
 
-  pub is_section_4 : length written_4 ≤ 16777215 → IsSection 11 (data_rows n) written_4
+  pub is_section_4 : length written_4 ≤ 16777215 → IsSection 11 (data_rules n) written_4
   is_section_4 short =
       let known = flags_known in
       record {
         length_stands = stands (data_octets s5 values) (omega (arith, short));
         long = omega (arith, length_data);
-        rows_hold = none_from_passes (data_rows n written_4) (
+        rules_hold = none_from_passes (data_rules n written_4) (
           ap (bit 1) flags_stand ∙ known.0,
           (
             ap (bit 2) flags_stand ∙ known.1,

@@ -15,7 +15,7 @@ use Rattle.grib2_sections.specs.Template.{least_length}
 use Rattle.grib2_products.specs.Product.{product_templates, template_length, coordinate_count}
 use Rattle.grib2_products.specs.Spelled.{coordinate_list}
 use Rattle.grib1_sections.specs.Keys.{key_in}
-use Rattle.grib1_sections.specs.declared.key.Key1.TheVariants.{TimeRange}
+use Rattle.grib_keys.specs.declared.key1.Key1.TheVariants.{TimeRange}
 use Rattle.grib_migrate.specs.declared.level.Surfaces.{Surfaces}
 use Rattle.grib_migrate.specs.declared.time.Unit.{Unit as UnitOfTime}
 use Rattle.grib_migrate.specs.Products.{template_of, instant_numbers, interval_numbers, coordinate_numbers, product_octets}

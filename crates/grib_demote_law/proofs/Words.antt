@@ -1,11 +1,12 @@
 -- A binary32 word that has an IBM word has that back.
-use Rattle.std.proofs.Common.{◌≡◌, ◌≢◌, ◌⊎◌, ℕ, ◌+◌, ◌≤◌, ℤ, pos, neg_ℤ, ◌-ℤ◌, ◌*ℤ◌, ◌*◌, ◌^◌, ◌<◌, ◌==◌, Bool, true, false, cond, Some, None, refl, sym, ap, ◌∙◌, subst, arith, inl, inr}
+use Rattle.std.proofs.Common.{◌≡◌, ◌≢◌, ◌⊎◌, ℕ, ◌+◌, ℤ, pos, neg_ℤ, ◌-ℤ◌, ◌*ℤ◌, ◌*◌, ◌^◌, ◌<◌, ◌==◌, Bool, true, false, cond, Some, None, refl, sym, ap, ◌∙◌, subst, arith, inl, inr}
 use Rattle.std.specs.Int.{int_min}
-use Rattle.std.proofs.Math.Nat.{eq-zero-or-pos, mul-le-mul_right}
+use Rattle.std.proofs.Math.Nat.{eq-zero-or-pos}
 use Rattle.std.proofs.lemmas.Nat.{pow_pos}
 use Rattle.std.proofs.lemmas.Int.{ints}
 use Rattle.std.proofs.lemmas.Bool.{cases_eq}
 use Rattle.grib_bits.specs.Binary32.{ieee_sign, ieee_exponent, ieee_fraction}
+use Rattle.grib_bits.proofs.Arithmetic.{no_factor}
 use Rattle.grib_dyadic.specs.Sign.{signed}
 use Rattle.grib_dyadic.specs.Reference.{IsFinite, SameNumber, binary, with_sign, two_to_difference, ieee, ibm}
 use Rattle.grib_dyadic.proofs.Numbers.{SameNumber_sym}
@@ -26,13 +27,6 @@ finite_from word x e = by (cases_eq (ieee_exponent word) 255)
     by (inr other) = omega (arith, other)
 
 -- ---- zero
-
-no_factor : (a q : ℕ) → 0 < q → a * q ≡ 0 → a ≡ 0
-no_factor a q some e = by (eq-zero-or-pos a)
-  where
-    by : (a ≡ 0) ⊎ (0 < a) → a ≡ 0
-    by (inl z) = z
-    by (inr h) = let more : 1 * q ≤ a * q = mul-le-mul_right q h in absurd (omega arith)
 
 zero_mantissa : (word : ℕ) → magnitude word ≡ 0 → (ieee word).mantissa ≡ pos 0
 zero_mantissa word z = by (ieee_exponent word == 0) z

@@ -10,7 +10,7 @@ use Rattle.grib1_sections.specs.Acceptance.{verdict_1}
 use Rattle.grib2_message.specs.Acceptance.{verdict_under}
 use Rattle.grib_base.specs.declared.profile.Profile.{Profile}
 use Rattle.std.proofs.lemmas.Bool.{false≢true}
-use Rattle.grib_base.specs.Rows.{choose}
+use Rattle.grib_base.specs.Rules.{choose}
 use Rattle.grib2_sections.specs.Head.{edition}
 use Rattle.grib2_message.specs.Fields.{field_count}
 use Rattle.grib_stream.specs.declared.place.Place.{Place}

@@ -10,7 +10,7 @@ use Rattle.std.specs.declared.option.Option.{Option}
 use Rattle.grib_base.specs.declared.fault.Fault.{Fault}
 use Rattle.grib_base.specs.declared.fault.Refusal.{Refusal}
 use Rattle.grib_base.specs.declared.profile.Profile.{Profile}
-use Rattle.grib_base.specs.Rows.{choose}
+use Rattle.grib_base.specs.Rules.{choose}
 use Rattle.grib2_sections.specs.Head.{indicator, edition}
 use Rattle.grib_base.specs.declared.fault.Reason.{Reason}
 use Rattle.grib_base.specs.declared.fault.Reason.TheVariants.{Edition, Truncated}

@@ -8,11 +8,11 @@ use Rattle.grib_bits.specs.Octets.{num_on, octets}
 use Rattle.grib_base.specs.declared.fault.Fault.{Fault}
 use Rattle.grib_base.specs.declared.fault.Reason.{Reason}
 use Rattle.grib_base.specs.declared.fault.Reason.TheVariants.{Truncated}
-use Rattle.grib_base.specs.Rows.{choose, first_fault}
+use Rattle.grib_base.specs.Rules.{choose, first_fault}
 use Rattle.grib_base.specs.declared.limits.TheConstants.{MOST_OCTETS}
 use Rattle.grib_base.specs.declared.profile.Profile.{Profile}
 use Rattle.grib2_sections.specs.Verdict.{Verdict, Accepted, Refused}
-use Rattle.grib2_sections.specs.Head.{edition, head_rows}
+use Rattle.grib2_sections.specs.Head.{edition, head_rules}
 use Rattle.grib2_sections.specs.Frame.{ends_at, section_at, placed_at}
 use Rattle.grib1_sections.specs.Acceptance.{verdict_1}
 use Rattle.grib1_sections.proofs.Stays.{accepted_stays as first_stays, refused_stays as first_refused_stays}
@@ -215,8 +215,8 @@ message_alone profile rest total begun m =
     let least : 20 ≤ total = accepted_least profile rest total other m.verdict_is in
     let there : total ≤ length rest = accepted_there profile rest total other m.verdict_is in
     let size : length (take total rest) ≡ total = length-take-le total rest there in
-    let head = head_none (first_fault (head_rows rest)) _ total m.verdict_is in
-    let second : edition rest ≡ 2 = (head_passes rest other (passes_from_none (head_rows rest) head)).second_edition in
+    let head = head_none (first_fault (head_rules rest)) _ total m.verdict_is in
+    let second : edition rest ≡ 2 = (head_passes rest other (passes_from_none (head_rules rest) head)).second_edition in
     record {
       indicated = sym (take-append-le 4 (take total rest) (drop total rest) (omega arith)) ∙ (ap (take 4) (take-append-drop total rest) ∙ begins_is rest begun);
       edition_stands = edition_alone rest total (omega arith) there ∙ second;

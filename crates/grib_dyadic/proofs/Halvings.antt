@@ -4,10 +4,11 @@ use Rattle.std.proofs.Math.Nat.{pow-suc, mul_assoc, div-eq_of_eq-mul_left}
 use Rattle.std.proofs.lemmas.Nat.{pow_pos}
 use Rattle.std.proofs.lemmas.Bool.Decides.{eqb_tells}
 use Rattle.std.specs.Int.{is_negative, int_min}
+use Rattle.grib_bits.proofs.Arithmetic.{zero-times}
 use Rattle.grib_dyadic.specs.Sign.{signed}
 use Rattle.grib_dyadic.specs.Reference.{Binary, binary, two_to_difference, halvings, reduced, ieee, ibm, ibm_b, IsFinite, IsReduced, SameNumber}
 use Rattle.grib_dyadic.proofs.Numbers.{SameNumber_trans}
-use Rattle.grib_dyadic.proofs.Reduced.{zero-times, reduced_once}
+use Rattle.grib_dyadic.proofs.Reduced.{reduced_once}
 use Rattle.grib_dyadic.proofs.Signs.{nat_abs-signed, signed_number, is_negative_iff, zero_of_abs, SameNumber-signed, SameNumber-lower}
 use Rattle.grib_dyadic.proofs.Words.{IsIeeeWord-some, IsIeeeWord-reads}
 

@@ -1,22 +1,12 @@
 -- A reduced number against another form of the same number.
-use Rattle.std.proofs.Common.{◌≡◌, ℕ, zero, suc, ◌*◌, ◌%◌, ◌^◌, ◌<◌, ◌⊎◌, ℤ, pos, negsuc, neg_ℤ, ◌*ℤ◌, ◌-ℤ◌, ◌≤ℤ◌, ◌<ℤ◌, nat_abs, refl, sym, ap, ◌∙◌, inl, inr, arith}
-use Rattle.std.proofs.Math.Nat.{pow-suc, mul_assoc, mul-mod_left, zero-mul}
+use Rattle.std.proofs.Common.{◌≡◌, ℕ, zero, suc, ◌*◌, ◌%◌, ◌^◌, ◌<◌, ◌⊎◌, pos, ◌*ℤ◌, ◌-ℤ◌, ◌≤ℤ◌, ◌<ℤ◌, nat_abs, sym, ap, ◌∙◌, inl, inr, arith}
+use Rattle.std.proofs.Math.Nat.{pow-suc, mul_assoc, mul-mod_left}
 use Rattle.std.proofs.lemmas.Nat.{pow_pos}
 use Rattle.std.proofs.lemmas.Int.{ints, by_lt_z}
 use Rattle.grib_dyadic.specs.Reference.{Binary, binary, two_to_difference, SameNumber, IsReduced}
 use Rattle.grib_dyadic.proofs.Numbers.{scaled, scaled_self, SameNumber-scaled, times_cancel, SameNumber_sym}
 use Rattle.std.specs.Int.{int_min}
-
-pub nat_abs-neg : (n : ℕ) → nat_abs (neg_ℤ (pos n)) ≡ n
-nat_abs-neg zero = refl
-nat_abs-neg (suc n) = refl
-
-pub nat_abs-times : (m : ℤ) (c : ℕ) → nat_abs (m *ℤ pos c) ≡ nat_abs m * c
-nat_abs-times (pos a) c = refl
-nat_abs-times (negsuc a) c = nat_abs-neg (suc a * c)
-
-pub zero-times : (c : ℕ) → pos 0 *ℤ pos c ≡ pos 0
-zero-times c = ap pos (zero-mul c)
+use Rattle.grib_bits.proofs.Arithmetic.{nat_abs-times, zero-times}
 
 -- x is the number v, with no greater exponent
 pub record IsMultiple (v x : Binary) : Type 0 where

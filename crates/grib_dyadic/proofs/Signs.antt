@@ -2,10 +2,10 @@
 use Rattle.std.proofs.Common.{◌≡◌, ℕ, ◌*◌, ◌/◌, ◌%◌, ◌^◌, ◌<◌, ◌↔◌, Bool, true, false, IsTrue, ℤ, pos, negsuc, ◌+ℤ◌, ◌*ℤ◌, ◌-ℤ◌, ◌≤ℤ◌, ◌<ℤ◌, nat_abs, refl, sym, ap, ◌∙◌, subst, arith, if◌then◌else◌}
 use Rattle.std.proofs.lemmas.Int.{ints}
 use Rattle.std.specs.Int.{int_min, is_negative, w32, trailing_zeros}
+use Rattle.grib_bits.proofs.Arithmetic.{nat_abs-neg}
 use Rattle.grib_dyadic.specs.Sign.{signed}
 use Rattle.grib_dyadic.specs.Reference.{Binary, binary, two_to_difference, SameNumber}
 use Rattle.grib_dyadic.proofs.Numbers.{neg-times, scaled_self, SameNumber-from_scaled, SameNumber_sym}
-use Rattle.grib_dyadic.proofs.Reduced.{nat_abs-neg}
 use Rattle.grib_dyadic.proofs.Lengths.{without_zeros}
 
 pub nat_abs-signed : (negative : Bool) (n : ℕ) → nat_abs (signed negative n) ≡ n

@@ -8,7 +8,7 @@ use Rattle.std.proofs.KnownBytes.{Appends-trans}
 use Rattle.std.proofs.lemmas.Bool.{cases_eq, and_right}
 use Rattle.grib_edit.specs.Fronts.{IsFront}
 use Rattle.grib_io.specs.Outside.{AppendsFront}
-use Rattle.grib_base.specs.Rows.{choose}
+use Rattle.grib_base.specs.Rules.{choose}
 use Rattle.grib_base.specs.declared.limits.TheConstants.{MOST_OCTETS}
 use Rattle.grib_select.specs.Single.{single_of}
 use Rattle.grib2_message.specs.Fields.{field_count}

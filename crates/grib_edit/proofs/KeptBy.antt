@@ -22,7 +22,7 @@ use Rattle.grib_select.specs.Changed.{IsSetFault}
 use Rattle.grib_select.specs.declared.changing.SetFault.{SetFault}
 use Rattle.grib_select.specs.declared.changing.SetFault.TheVariants as unset
 use Rattle.std.specs.Option.{option_or}
-use Rattle.grib1_sections.specs.declared.key.Key1.{Key1}
+use Rattle.grib_keys.specs.declared.key1.Key1.{Key1}
 use Rattle.grib1_select.specs.Changed.{IsSetFault1}
 use Rattle.grib1_select.specs.declared.changing.SetFault1.{SetFault1}
 use Rattle.grib1_select.specs.declared.changing.SetFault1.TheVariants as unset1

@@ -1,5 +1,5 @@
 -- What the calls of a shelf do, act by act.
-use Rattle.std.proofs.Common.{◌≡◌, ℕ, zero, suc, ◌+◌, ◌-◌, ◌≤◌, ◌⊎◌, inl, inr, true, false, cond, Some, None, Ok, Err, unwrap_or, List, [], ◌∷◌, ◌++◌, map, refl, sym, ap, ◌∙◌, subst, arith, ⊎_elim, append_assoc, append-nil}
+use Rattle.std.proofs.Common.{◌≡◌, ℕ, ◌+◌, ◌-◌, ◌≤◌, ◌⊎◌, inl, inr, false, cond, Some, None, Ok, Err, unwrap_or, List, [], ◌∷◌, ◌++◌, map, refl, sym, ap, ◌∙◌, subst, arith, ⊎_elim, append_assoc, append-nil}
 use Rattle.std.specs.declared.option.Option.{Option}
 use Rattle.std.specs.declared.result.Result.{Result}
 use Rattle.std.specs.Result.{IsErr}
@@ -12,6 +12,8 @@ use Rattle.std.proofs.lemmas.List.{map-append}
 use Rattle.std.proofs.lemmas.List.Concat.{flat_map-append}
 use Rattle.std.proofs.lemmas.List.FromFn.{map-range_with_len_more}
 use Rattle.std.proofs.lemmas.Slice.Eq.{bytes_eq-Decides}
+use Rattle.grib_bits.proofs.Logic.{same_text}
+use Rattle.grib_bits.proofs.Arithmetic.{range_append}
 use Rattle.grib_io.specs.Shelves.{Held, OthersAsBefore, OthersStay, Turns, AddsPiece}
 use Rattle.grib_stream.specs.Acts.{Act, Makes, Adds, written, held_after, world, NamesDid, Did, DidFront}
 use Rattle.grib_stream.proofs.Worlds.{did_none, did_then, did_still, front_whole, front_more, front_after}
@@ -34,13 +36,10 @@ on_shelf a b acts none did = λ output. record { output = subst (Appends output 
 
 -- ---- one name
 
-pub same_name : (name : List ℕ) → bytes_eq name name ≡ true
-same_name name = (bytes_eq-Decides name name).1 refl
-
 pub held_adds : (name held octets : List ℕ) → held_after name (Some held) (adds name octets) ≡ Some (held ++ octets)
 held_adds name held [] = ap Some (sym (append-nil held))
 held_adds name held (octet ∷ octets) =
-    ap (λ same. held_after name (cond same (Some (held ++ octet ∷ [])) (Some held)) (adds name octets)) (same_name name)
+    ap (λ same. held_after name (cond same (Some (held ++ octet ∷ [])) (Some held)) (adds name octets)) (same_text name)
     ∙ (held_adds name (held ++ octet ∷ []) octets ∙ ap Some (append_assoc held (octet ∷ []) octets))
 
 pub other_adds : (name other : List ℕ) (held : Option (List ℕ)) (octets : List ℕ) → bytes_eq other name ≡ false → held_after name held (adds other octets) ≡ held
@@ -58,7 +57,7 @@ kept a b name other others differs = others other (λ e. false≢true (sym diffe
 
 made : (a b : Held) (name : List ℕ) → b name ≡ Some [] → OthersAsBefore a b name → NamesDid (Some a) (Some b) (Makes name ∷ [])
 made a b name is others =
-    at_each name (λ n. b n ≡ held_after n (a n) (Makes name ∷ [])) (is ∙ sym (ap (λ same. cond same (Some []) (a name)) (same_name name)))
+    at_each name (λ n. b n ≡ held_after n (a n) (Makes name ∷ [])) (is ∙ sym (ap (λ same. cond same (Some []) (a name)) (same_text name)))
     (λ other differs. kept a b name other others differs ∙ sym (ap (λ same. cond same (Some []) (a other)) differs))
 
 added : (a b : Held) (name held octets : List ℕ) → a name ≡ Some held → b name ≡ Some (held ++ octets) → OthersAsBefore a b name
@@ -159,20 +158,10 @@ field_unbegun result a acts refused = record { whole = on_refused result _ refus
 
 -- ---- field after field
 
-pub range-append : (a m n : ℕ) → range_with_len a (m + n) ≡ range_with_len a m ++ range_with_len (a + m) n
-range-append a zero n =
-    let e : 0 + n ≡ n = omega arith in
-    let f : a ≡ a + 0 = omega arith in
-    ap (range_with_len a) e ∙ ap (λ k. range_with_len k n) f
-range-append a (suc m) n =
-    let e : suc m + n ≡ suc (m + n) = omega arith in
-    let f : (a + 1) + m ≡ a + suc m = omega arith in
-    ap (range_with_len a) e ∙ ap (λ xs. a ∷ xs) (range-append (a + 1) m n ∙ ap (λ k. range_with_len (a + 1) m ++ range_with_len k n) f)
-
 module _ (out : List ℕ) (before : ℕ) (message : List ℕ) where
   parts_join : (m n : ℕ) → first_parts out before message (m + n) ≡ first_parts out before message m ++ map (part_of out before message) (range_with_len (1 + m) n)
   parts_join m n =
-      ap (map (part_of out before message)) (range-append 1 m n)
+      ap (map (part_of out before message)) (range_append 1 m n)
       ∙ map-append (part_of out before message) (range_with_len 1 m) (range_with_len (1 + m) n)
 
   puts_more : (k i : ℕ) → 1 + k ≡ i

@@ -1,7 +1,8 @@
 -- `demote`: each field of a message of edition 2 as a message of edition 1, by the rows of a parameter table.
-use Rattle.std.proofs.Common.{◌≡◌, ◌≢◌, ℕ, zero, suc, ◌+◌, ◌*◌, ◌<◌, ◌≤◌, Bool, true, false, cond, nat_lt, Option, Some, None, option_map, List, length, refl, sym, ap, ◌∙◌, arith, ⊎_elim, ltb-false}
-use Rattle.std.specs.Option.{option_or}
-use Rattle.std.proofs.lemmas.Bool.{cases_Bool, cases_eq}
+use Rattle.std.proofs.Common.{◌≡◌, ℕ, ◌+◌, ◌*◌, ◌≤◌, Bool, true, false, cond, nat_lt, Option, Some, None, option_map, List, length, refl, ap, ◌∙◌, arith, ⊎_elim, ltb-false}
+use Rattle.std.proofs.lemmas.Bool.{cases_Bool}
+use Rattle.grib_base.proofs.Firsts.{none_each, none_later}
+use Rattle.grib_base.specs.Rules.{first_among}
 use Rattle.grib_base.specs.declared.limits.TheConstants.{MOST_OCTETS}
 use Rattle.grib_base.specs.declared.profile.Profile.TheVariants.{Stated}
 use Rattle.grib_reasons.specs.declared.cause.Cause.{Cause}
@@ -13,7 +14,7 @@ use Rattle.grib2_message.specs.Message.{IsAnyMessage}
 use Rattle.grib_params.specs.declared.matching.TableMatch.{TableMatch}
 use Rattle.grib_params.specs.Table.{Entries}
 use Rattle.grib_demote.specs.Losses.{first_of, field_losses}
-use Rattle.grib_demote.specs.Demoted.{demoted, first_loss, length_loss, or_later}
+use Rattle.grib_demote.specs.Demoted.{demoted, first_loss, length_loss}
 use Rattle.grib_stream.specs.declared.outcome.Outcome.{Outcome}
 use Rattle.grib_stream.specs.declared.place.Place.{Place}
 use Rattle.grib_stream.specs.Acts.{Act}
@@ -28,14 +29,9 @@ use Rattle.grib_command.specs.LawfulCommands.{reading_lawful, unless_ends, unmap
 abbrev pub field_cause : Entries → TableMatch → Bool → Bool → List ℕ → ℕ → Option Cause
 field_cause table matching keep_local any_earth message i = option_map (Demoted i) (first_loss table matching keep_local any_earth message i)
 
--- the first cause of n fields, from field i on
-abbrev pub first_cause : (ℕ → Option Cause) → ℕ → ℕ → Option Cause
-first_cause cause zero i = None
-first_cause cause (suc n) i = option_or (cause i) (first_cause cause n (i + 1))
-
 -- why a message is kept: the first field with a loss, and its first loss
 abbrev pub demoted_cause : Entries → TableMatch → Bool → Bool → List ℕ → Option Cause
-demoted_cause table matching keep_local any_earth message = first_cause (field_cause table matching keep_local any_earth message) (field_count message) 1
+demoted_cause table matching keep_local any_earth message = first_among (field_cause table matching keep_local any_earth message) (field_count message) 1
 
 -- the messages of edition 1 of its fields, one after another
 abbrev pub demoted_fields : Entries → TableMatch → Bool → List ℕ → List ℕ
@@ -62,23 +58,6 @@ demote_command matching keep_local any_earth table = reading_values (demoting ma
 
 -- ---- it is lawful
 
--- where no field has a cause, each has none
-first_none : (a b : Option Cause) → option_or a b ≡ None → a ≡ None
-first_none None b none = refl
-first_none (Some cause) b none = let no : ⊥ = cc in absurd no
-
-rest_none : (a b : Option Cause) → option_or a b ≡ None → b ≡ None
-rest_none None b none = none
-rest_none (Some cause) b none = let no : ⊥ = cc in absurd no
-
-pub none_each : (cause : ℕ → Option Cause) (n i : ℕ) → first_cause cause n i ≡ None → (j : ℕ) → i ≤ j → j < i + n → cause j ≡ None
-none_each cause zero i none j low high = absurd (omega arith)
-none_each cause (suc n) i none j low high =
-    ⊎_elim
-    (λ (here : i ≡ j). sym (ap cause here) ∙ first_none (cause i) (first_cause cause n (i + 1)) none)
-    (λ (later : i ≢ j). none_each cause n (i + 1) (rest_none (cause i) (first_cause cause n (i + 1)) none) j (omega (arith, later)) (omega arith))
-    (cases_eq i j)
-
 fits_length : (l : ℕ) → length_loss l ≡ None → l ≤ 16777215
 fits_length l none =
     ⊎_elim
@@ -88,21 +67,17 @@ fits_length l none =
     (λ (short : nat_lt 16777215 l ≡ false). ltb-false 16777215 l short)
     (cases_Bool (nat_lt 16777215 l))
 
-later_none : (first : Option Demotion) (later : Unit {0} → Option Demotion) → or_later first later ≡ None → later tt ≡ None
-later_none None later none = none
-later_none (Some loss) later none = let no : ⊥ = cc in absurd no
-
 module _ (matching : TableMatch) (keep any : Bool) (table : Entries) where
   pub few_octets : (message : List ℕ) (i : ℕ) → first_loss table matching keep any message i ≡ None → length (demoted table matching keep message i) ≤ 16777215
   few_octets message i none =
       fits_length (length (demoted table matching keep message i))
-      (later_none (first_of (field_losses table matching keep any message i)) (λ _. length_loss (length (demoted table matching keep message i))) none)
+      (none_later (first_of (field_losses table matching keep any message i)) (λ _. length_loss (length (demoted table matching keep message i))) none).1
 
   few_fields : (message : List ℕ) → IsAnyMessage message → demoted_cause table matching keep any message ≡ None → 20 * length (demoted_fields table matching keep message) ≤ MOST_OCTETS * length message
   few_fields message h none =
       let few = texts_most (demoted table matching keep message) (field_count message) 1
       (λ i low high.
-      let own = few_octets message i (unmapped (Demoted i) (first_loss table matching keep any message i) (none_each (field_cause table matching keep any message) (field_count message) 1 none i low high)) in
+      let own = few_octets message i (unmapped (Demoted i) (first_loss table matching keep any message i) (none_each (field_cause table matching keep any message) 1 (field_count message) i none low high)) in
       omega arith) in
       omega (arith, twenty_each message h)
 

@@ -1,10 +1,11 @@
 -- `migrate`: each message of edition 1 as one of edition 2, by the rows of a parameter table and of a table of surfaces.
-use Rattle.std.proofs.Common.{◌≡◌, ℕ, ◌+◌, ◌-◌, ◌*◌, ◌<◌, ◌≤◌, Bool, true, false, ◌&&◌, nat_lt, None, option_map, List, [], ◌∷◌, length, drop, All, refl, sym, ap, arith, ⊎_elim, ltb-true, length-take, length-drop}
+use Rattle.std.proofs.Common.{◌≡◌, ℕ, ◌+◌, ◌-◌, ◌*◌, ◌<◌, ◌≤◌, Bool, true, false, ◌&&◌, nat_lt, None, option_map, List, [], ◌∷◌, length, drop, All, sym, ap, arith, ⊎_elim, ltb-true, length-take, length-drop}
 use Rattle.std.proofs.lemmas.Bool.{cases_Bool}
 use Rattle.std.proofs.lemmas.List.Elements.{All-nil, All-cons}
-use Rattle.grib_base.specs.Rows.{choose}
+use Rattle.grib_base.specs.Rules.{choose}
 use Rattle.grib_base.specs.declared.limits.TheConstants.{MOST_OCTETS}
 use Rattle.grib_bits.specs.Octets.{octet_list, octets}
+use Rattle.grib_bits.proofs.Logic.{left_true, right_true}
 use Rattle.grib_reasons.specs.declared.cause.Cause.TheVariants.{Lost}
 use Rattle.grib1_sections.specs.Acceptance.{identification}
 use Rattle.grib1_sections.specs.Message.{IsMessage1}
@@ -46,19 +47,11 @@ migrate_command local table surfaces = record {
 
 -- ---- it is lawful
 
-left_of : (a b : Bool) → (a && b) ≡ true → a ≡ true
-left_of true b h = refl
-left_of false b h = h
-
-right_of : (a b : Bool) → (a && b) ≡ true → b ≡ true
-right_of true b h = h
-right_of false b h = let no : ⊥ = cc in absurd no
-
 pub all_octets : (xs : List ℕ) → are_octets xs ≡ true → All (λ octet. octet < 256) xs
 all_octets [] h = All-nil (λ octet. octet < 256)
 all_octets (x ∷ xs) h =
-    All-cons (λ octet. octet < 256) x xs (ltb-true x 256 (left_of (nat_lt x 256) (are_octets xs) h))
-    (all_octets xs (right_of (nat_lt x 256) (are_octets xs) h))
+    All-cons (λ octet. octet < 256) x xs (ltb-true x 256 (left_true (nat_lt x 256) (are_octets xs) h))
+    (all_octets xs (right_true (nat_lt x 256) (are_octets xs) h))
 
 piece_short : (m : List ℕ) (p q : ℕ) → length (octet_list m p q) ≤ length m
 piece_short m p q = omega (arith, length-take (q + 1 - p) (drop (p - 1) m), length-drop (p - 1) m)

@@ -1,14 +1,15 @@
 -- `repack`: each message with its fields packed anew.
 use Rattle.std.proofs.Common.{◌≡◌, ℕ, ◌≤◌, true, false, cond, Option, Some, None, option_map, List, length, nat_lt, ap, ⊎_elim, ltb-false}
-use Rattle.std.specs.List.{range_with_len}
 use Rattle.std.proofs.lemmas.Bool.{cases_Bool}
+use Rattle.grib_base.proofs.Firsts.{none_later}
+use Rattle.grib_base.specs.Rules.{first_among}
 use Rattle.grib_base.specs.declared.limits.TheConstants.{MOST_OCTETS}
 use Rattle.grib2_message.specs.Fields.{field_count}
 use Rattle.grib_packing.specs.Misfits.{Target}
-use Rattle.grib_repack.specs.declared.target.RepackTarget.{RepackTarget}
-use Rattle.grib_repack.specs.Faults.{target_of}
+use Rattle.grib_packing.specs.declared.target.RepackTarget.{RepackTarget}
+use Rattle.grib_packing.specs.Targets.{target_of}
 use Rattle.grib_repack.specs.Repacked as misfits
-use Rattle.grib_repack.specs.Repacked.{RepackMisfit, repacked, misfit_among, or_later, length_misfit, repack_misfit}
+use Rattle.grib_repack.specs.Repacked.{RepackMisfit, repacked, length_misfit, repack_misfit, field_misfit}
 use Rattle.grib_reasons.specs.declared.cause.Cause.{Cause}
 use Rattle.grib_reasons.specs.declared.cause.Cause.TheVariants.{SecondaryMissing, OutOfRange, DifferenceRange, OutputTooLong}
 use Rattle.grib_command.specs.Command.{Command, IsLawfulCommand, changing_unless, reading_values}
@@ -40,14 +41,10 @@ fits_length l none =
     (λ (short : nat_lt MOST_OCTETS l ≡ false). ltb-false MOST_OCTETS l short)
     (cases_Bool (nat_lt MOST_OCTETS l))
 
-later_none : (first : Option RepackMisfit) (later : Unit {0} → Option RepackMisfit) → or_later first later ≡ None → later tt ≡ None
-later_none None later none = none
-later_none (Some misfit) later none = let no : ⊥ = cc in absurd no
-
 pub few_repacked : (target : Target) (message : List ℕ) → repack_misfit target message ≡ None → length (repacked target message) ≤ MOST_OCTETS
 few_repacked target message none =
     fits_length (length (repacked target message))
-    (later_none (misfit_among target message (range_with_len 1 (field_count message))) (λ _. length_misfit (length (repacked target message))) none)
+    (none_later (first_among (field_misfit target message) (field_count message) 1) (λ _. length_misfit (length (repacked target message))) none).1
 
 pub repack_lawful : (target : RepackTarget) → IsLawfulCommand (repack_command target)
 repack_lawful target = values_unless_lawful _ _ (λ message h readable none. few_repacked (target_of target) message (unmapped cause_of (repack_misfit (target_of target) message) none))

@@ -1,9 +1,10 @@
 -- `rescan` and `crop`: each message in the order of scanning octet 0, or a box of its grids.
 use Rattle.std.proofs.Common.{◌≡◌, ℕ, ◌≤◌, true, false, cond, Option, Some, None, option_map, List, length, nat_lt, ap, ⊎_elim, ltb-false}
-use Rattle.std.specs.List.{range_with_len}
 use native.Mathlib.Bridge.{le_prop}
 use mathlib.Core.HLevel.{×_prop, Unit-prop}
 use Rattle.std.proofs.lemmas.Bool.{cases_Bool}
+use Rattle.grib_base.proofs.Firsts.{none_later}
+use Rattle.grib_base.specs.Rules.{first_among}
 use Rattle.grib_base.specs.declared.limits.TheConstants.{MOST_OCTETS}
 use Rattle.grib2_message.specs.Fields.{field_count}
 use Rattle.grib_packing.specs.Misfits as packing
@@ -12,7 +13,7 @@ use Rattle.grib_reorder.specs.declared.edit.GridEdit.{GridEdit}
 use Rattle.grib_reorder.specs.declared.edit.GridEdit.TheVariants.{Rescan, Crop, Within}
 use Rattle.grib_reorder.specs.declared.fault.RescanFault.{RescanFault}
 use Rattle.grib_reorder.specs.declared.fault.RescanFault.TheVariants as faults
-use Rattle.grib_reorder.specs.Rescanned.{Stands, EditMisfit, OfGrid, OfColumn, TooLong, edited, misfit_among, or_later, length_misfit, edit_misfit}
+use Rattle.grib_reorder.specs.Rescanned.{Stands, EditMisfit, OfGrid, OfColumn, TooLong, edited, length_misfit, edit_misfit, field_misfit}
 use Rattle.grib_reasons.specs.declared.cause.Cause.{Cause}
 use Rattle.grib_reasons.specs.declared.cause.Cause.TheVariants as causes
 use Rattle.grib_command.specs.declared.answered.Answered.{Answered}
@@ -67,14 +68,10 @@ fits_length l none =
     (λ (short : nat_lt MOST_OCTETS l ≡ false). ltb-false MOST_OCTETS l short)
     (cases_Bool (nat_lt MOST_OCTETS l))
 
-later_none : (first : Option EditMisfit) (later : Unit {0} → Option EditMisfit) → or_later first later ≡ None → later tt ≡ None
-later_none None later none = none
-later_none (Some misfit) later none = let no : ⊥ = cc in absurd no
-
 few_of : (edit : GridEdit) (message : List ℕ) → edit_misfit edit message ≡ None → length (edited edit message) ≤ MOST_OCTETS
 few_of edit message none =
     fits_length (length (edited edit message))
-    (later_none (misfit_among edit message (range_with_len 1 (field_count message))) (λ _. length_misfit (length (edited edit message))) none)
+    (none_later (first_among (field_misfit edit message) (field_count message) 1) (λ _. length_misfit (length (edited edit message))) none).1
 
 pub edit_lawful : (edit : GridEdit) → IsLawfulCommand (edit_command edit)
 edit_lawful edit = values_unless_lawful _ _ (λ message h readable none. few_of edit message (unmapped edit_cause (edit_misfit edit message) none))

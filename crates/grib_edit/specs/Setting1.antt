@@ -2,7 +2,7 @@
 use Rattle.std.proofs.Common.{◌≡◌, ℕ, ◌*◌, ◌≤◌, true, Option, Some, None, option_map, List, length, All, IsTrue, sym, ap, arith}
 use Rattle.std.specs.Option.{option_or}
 use Rattle.grib_base.specs.declared.limits.TheConstants.{MOST_OCTETS}
-use Rattle.grib1_sections.specs.Keys.{can_set1}
+use Rattle.grib_keys.specs.Keys1.{can_set1}
 use Rattle.grib1_select.specs.declared.condition.Change1.{Change1}
 use Rattle.grib1_select.specs.Changed.{with_keys1, set_fault1}
 use Rattle.grib1_select.proofs.Set.{opens, length-with_keys1}

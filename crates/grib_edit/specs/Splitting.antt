@@ -1,6 +1,6 @@
 -- `split`: each field as a message of its own, on the shelf.
 use Rattle.std.proofs.Common.{◌≡◌, ℕ, ◌+◌, ◌*◌, ◌≤◌, Bool, true, false, List, length, sym, ap, arith}
-use Rattle.grib_base.specs.Rows.{choose}
+use Rattle.grib_base.specs.Rules.{choose}
 use Rattle.grib_base.specs.declared.limits.TheConstants.{MOST_OCTETS}
 use Rattle.grib2_message.specs.Message.{IsAnyMessage}
 use Rattle.grib_reasons.specs.declared.cause.Cause.TheVariants.{EditionOne}

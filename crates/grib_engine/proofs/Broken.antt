@@ -1,12 +1,13 @@
 -- With what a run ends: as its answer says, or by a device or a lack of memory, before its end or at it.
-use Rattle.std.proofs.Common.{◌≡◌, ◌≢◌, ◌⊎◌, ◌==◌, ◌&&◌, inl, inr, Bool, true, false, cond, [], Ok, Err, refl, sym, ap, ◌∙◌}
+use Rattle.std.proofs.Common.{◌≡◌, ◌==◌, ◌&&◌, inl, inr, Bool, true, false, cond, [], Ok, Err, refl, sym, ap, ◌∙◌}
 use Rattle.std.proofs.lemmas.Bool.{false≢true}
 use Rattle.std.specs.declared.result.Result.{Result}
 use Rattle.grib_stream.specs.declared.outcome.Outcome.{Outcome}
-use Rattle.grib_stream.specs.declared.outcome.Outcome.TheVariants.{Done, Passed, Differs, ReadFault, WriteFault, ShelfFault, Memory}
-use Rattle.grib_stream.specs.Outcomes.{is_broken, is_cut_short}
+use Rattle.grib_stream.specs.declared.outcome.Outcome.TheVariants.{Done, Passed, Differs}
+use Rattle.grib_stream.specs.Outcomes.{is_broken, is_cut_short, is_whole}
+use Rattle.grib_stream.proofs.ByKind.{whole_unbroken, uncut_of}
 use Rattle.grib_items.specs.declared.policy.ItemTotals.{ItemTotals}
-use Rattle.grib_items.specs.Laws.{outcome_of, is_whole}
+use Rattle.grib_items.specs.Laws.{outcome_of}
 use Rattle.grib_stream.specs.declared.place.Totals.{Totals}
 use Rattle.grib_command.specs.declared.ending.Ending.{Ending}
 use Rattle.grib_command.specs.declared.ending.Ending.TheVariants.{Silent, Total, Written, Compared}
@@ -28,24 +29,6 @@ end_whole (Compared in_file) totals = one_whole_of ((totals.written == 0) && (to
 over_whole : (ending : Ending) (b : Bool) (totals : ItemTotals) → is_whole (cond b (ending_outcome ending totals.counted) (Passed totals.refused totals.kept)) ≡ true
 over_whole ending true totals = end_whole ending totals.counted
 over_whole ending false totals = refl
-
-pub whole_unbroken : (outcome : Outcome) → is_whole outcome ≡ true → is_broken outcome ≡ false
-whole_unbroken ReadFault is = sym is
-whole_unbroken WriteFault is = sym is
-whole_unbroken ShelfFault is = sym is
-whole_unbroken Memory is = sym is
-whole_unbroken other is = refl
-
-pub broken_early : (outcome : Outcome) → is_broken outcome ≡ true → is_whole outcome ≡ false
-broken_early Done is = sym is
-broken_early (Passed refused kept) is = sym is
-broken_early Differs is = sym is
-broken_early other is = refl
-
-pub uncut_of : (outcome : Outcome) → is_broken outcome ≡ false → is_cut_short outcome ≡ false
-uncut_of WriteFault unbroken = unbroken
-uncut_of Memory unbroken = unbroken
-uncut_of other unbroken = refl
 
 -- ---- what the items of an input answered
 
@@ -86,17 +69,3 @@ one_early fault own outcome uncut one is = sym (one_uncut own outcome one (ap is
 pub own_note : (outcome : Outcome) → note_with [] outcome ≡ note_of outcome
 own_note Done = refl
 own_note other = refl
-
--- ---- one outcome or another
-
-pub write_or_not : (outcome : Outcome) → (outcome ≡ WriteFault) ⊎ (outcome ≢ WriteFault)
-write_or_not WriteFault = inl refl
-write_or_not other = inr (λ e. cc)
-
-pub read_or_not : (outcome : Outcome) → (outcome ≡ ReadFault) ⊎ (outcome ≢ ReadFault)
-read_or_not ReadFault = inl refl
-read_or_not other = inr (λ e. cc)
-
-pub shelf_or_not : (outcome : Outcome) → (outcome ≡ ShelfFault) ⊎ (outcome ≢ ShelfFault)
-shelf_or_not ShelfFault = inl refl
-shelf_or_not other = inr (λ e. cc)

@@ -16,12 +16,12 @@ use Rattle.grib_stream.specs.declared.outcome.Outcome.{Outcome}
 use Rattle.grib_stream.specs.declared.outcome.Outcome.TheVariants.{ReadFault, WriteFault, ShelfFault, Memory, InputTooLong}
 use Rattle.grib_stream.specs.Acts.{Did}
 use Rattle.grib_stream.specs.Faults.{Faults, OneCounted, CountsRun}
-use Rattle.grib_stream.specs.Outcomes.{is_broken, is_cut_short, KeepsOrCuts}
+use Rattle.grib_stream.specs.Outcomes.{is_broken, is_cut_short, KeepsOrCuts, is_whole}
 use Rattle.grib_stream.specs.Reading.{Takes}
+use Rattle.grib_stream.proofs.ByKind.{whole_unbroken, uncut_of, write_or_not, read_or_not, shelf_or_not}
 use Rattle.grib_stream.proofs.Worlds.{did_keep, did_still, front_still}
 use Rattle.grib_items.specs.declared.policy.Policy.{Policy}
 use Rattle.grib_items.specs.Deeds.{deeds, Done, DoneFront}
-use Rattle.grib_items.specs.Laws.{is_whole}
 use Rattle.grib_items.specs.Run.{answer_of, CountsOne}
 use Rattle.grib_items.proofs.Effects.{concat_append, done_then, octets_whole, octets_after}
 use Rattle.grib_command.specs.Closing.{EndsRun, EndsNoted, StandsWhole}
@@ -34,7 +34,7 @@ use Rattle.grib_run_spec.specs.Stated.{IfFiled, IfTabled, IfAsked, IfStated, dee
 use Rattle.grib_run_spec.specs.Serving.{NotedBehind, NotedFrontBehind, NotesSome, IsCounted, Gives, Reading, AtOnce, Serves}
 use Rattle.grib_run_spec.specs.Tasks.{Stated, Work, Reads, Makes, ReadsTables, ReadsFile, has_shelf, has_table}
 use Rattle.grib_engine.specs.Beside.{beside}
-use Rattle.grib_engine.proofs.Broken.{whole_unbroken, uncut_of, one_uncut, one_whole, one_early, write_or_not, read_or_not, shelf_or_not}
+use Rattle.grib_engine.proofs.Broken.{one_uncut, one_whole, one_early}
 
 -- ---- before the end
 

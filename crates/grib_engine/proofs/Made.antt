@@ -5,6 +5,7 @@ use Rattle.std.proofs.KnownBytes.{Appends-nil, Appends-kept}
 use Rattle.std.specs.declared.result.Result.{Result}
 use Rattle.std.specs.List.{range_with_len}
 use Rattle.std.specs.Io.KnownBytes.{Appends, Keeps}
+use Rattle.grib_base.specs.Rules.{or_later, first_among}
 use Rattle.grib_base.specs.declared.limits.TheConstants.{MOST_OCTETS}
 use Rattle.grib_io.specs.Outside.{AppendsFront, Counted, Unfinished}
 use Rattle.grib_io.specs.declared.outside.Stop.{Stop}
@@ -13,7 +14,7 @@ use Rattle.grib_packing.specs.Misfits.{Target, first_misfit}
 use Rattle.grib_packed.specs.Written.{packed}
 use Rattle.grib2_message.specs.Fields.{field_count, column_of}
 use Rattle.grib2_message.specs.Assembled.{assembled}
-use Rattle.grib_repack.specs.Repacked.{OutputTooLong, kind_of, packed_field, packed_fields, repacked, field_misfit, or_later, misfit_among, length_misfit, repack_misfit}
+use Rattle.grib_repack.specs.Repacked.{OutputTooLong, kind_of, packed_field, packed_fields, repacked, field_misfit, length_misfit, repack_misfit}
 use Rattle.grib_stream.specs.Outcomes.{is_broken, is_cut_short}
 use Rattle.grib_stream.specs.declared.outcome.Outcome.{Outcome}
 use Rattle.grib_stream.specs.declared.outcome.Outcome.TheVariants.{Done, ReadFault, WriteFault, ShelfFault}
@@ -111,6 +112,6 @@ pub nothing_lost : (target : Target) (message : List ℕ) (column : Column) → 
 nothing_lost target message column one is kind none few =
     let parts = one_part target message column one is kind in
     let short : length (repacked target message) ≤ MOST_OCTETS = subst (λ ps. length (assembled message ps) ≤ MOST_OCTETS) (sym parts) few in
-    let fields : misfit_among target message (range_with_len 1 (field_count message)) ≡ None =
-    ap (λ n. misfit_among target message (range_with_len 1 n)) one ∙ ap (λ o. or_later o (λ _. None)) (field_fits target message column is none) in
+    let fields : first_among (field_misfit target message) (field_count message) 1 ≡ None =
+    ap (λ n. first_among (field_misfit target message) n 1) one ∙ ap (λ o. or_later o (λ _. None)) (field_fits target message column is none) in
     ap (λ o. or_later o (λ _. length_misfit (length (repacked target message)))) fields ∙ short_fits (length (repacked target message)) short

@@ -8,14 +8,14 @@ use Rattle.grib_io.specs.Outside.{Unfinished}
 use Rattle.grib_stream.specs.declared.outcome.Outcome.{Outcome}
 use Rattle.grib_stream.specs.declared.outcome.Outcome.TheVariants.{Refused, ReadFault, WriteFault, ShelfFault, Memory, InputTooLong}
 use Rattle.grib_stream.specs.Faults.{Faults}
-use Rattle.grib_stream.specs.Outcomes.{is_broken}
+use Rattle.grib_stream.specs.Outcomes.{is_broken, is_whole}
 use Rattle.grib_stream.specs.Soon.{RefusesSoon}
 use Rattle.grib_stream.specs.Task.{Task, Ends}
 use Rattle.grib_items.specs.declared.policy.Policy.{Policy}
 use Rattle.grib_items.specs.declared.policy.ItemTotals.{ItemTotals}
 use Rattle.grib_items.specs.Deeds.{deeds, Done, DoneFront}
 use Rattle.grib_items.specs.Answer.{Answered}
-use Rattle.grib_items.specs.Laws.{outcome_of, is_whole}
+use Rattle.grib_items.specs.Laws.{outcome_of}
 use Rattle.grib_items.specs.Run as items
 use Rattle.grib_items.specs.Run.{answer_within, Runs, CountsOne}
 use Rattle.grib_command.specs.declared.ending.Ending.{Ending}

@@ -3,10 +3,9 @@ use Rattle.std.proofs.Common.{◌≡◌, ◌≢◌, ℕ, Bool, true, false, IfSo
 use Rattle.std.proofs.lemmas.Bool.{false≢true}
 use Rattle.std.proofs.KnownBytes.{Appends-nil}
 use Rattle.grib_io.specs.Outside.{Counted}
-use Rattle.grib_io.specs.Shelves.{Held, Stays}
+use Rattle.grib_io.specs.Shelves.{Held, Stays, Stood}
 use Rattle.grib_file.specs.Filed as files
 use Rattle.grib_file.specs.Filed.{FieldOf, Filed, filed}
-use Rattle.grib_table.specs.Tabled.{Stood}
 use Rattle.grib_table.specs.declared.together.Tables.{Tables}
 use Rattle.grib_table.specs.declared.stop.TablesStop.{TablesStop}
 use Rattle.grib_table.specs.declared.stop.TablesStop.TheVariants as stops
@@ -17,6 +16,7 @@ use Rattle.grib_stream.specs.declared.outcome.Outcome.TheVariants as outcomes
 use Rattle.grib_stream.specs.declared.outcome.Outcome.TheVariants.{ReadFault, WriteFault, ShelfFault, Memory}
 use Rattle.grib_stream.specs.Acts.{world, Did}
 use Rattle.grib_stream.specs.Outcomes.{is_broken}
+use Rattle.grib_stream.proofs.ByKind.{broken_early}
 use Rattle.grib_stream.proofs.Windows.{takes_none}
 use Rattle.grib_stream.proofs.Worlds.{did_none, front_after}
 use Rattle.grib_items.specs.declared.policy.Policy.{Policy}
@@ -34,7 +34,6 @@ use Rattle.grib_run_spec.specs.Stated.{IfFiled, IfTabled, IfAsked, deeds_of, pla
 use Rattle.grib_run_spec.specs.Serving.{NotedBehind, NotesSome, IsCounted, Gives, Reading, AtOnce, Serves, IfUnread}
 use Rattle.grib_run_spec.specs.Tasks.{Stated, Work, Reads, Makes, ReadsTables, ReadsFile, IfHears, work_under, ends_at_once}
 use Rattle.grib_engine.specs.Untabled.{outcome_untabled}
-use Rattle.grib_engine.proofs.Broken.{broken_early}
 use Rattle.grib_engine.proofs.Ended.{Reached, Answers, States, Ran, if_told}
 
 any_told : {P : List ℕ → Type 0} (left : Option (List ℕ)) → ((input : List ℕ) → P input) → IfSome left P

@@ -6,7 +6,7 @@ ghost use Rattle.grib2_message.specs.Message.{IsMessage};
 ghost use Rattle.grib_io.specs.Outside.{AppendsFront, Counted, Unfinished};
 ghost use Rattle.grib_synthetic.specs.Made.{made, MayBeMade};
 ghost use Rattle.grib_packing.specs.Misfits.{ToSimple};
-ghost use Rattle.grib_repack.specs.Faults.{target_of};
+ghost use Rattle.grib_packing.specs.Targets.{target_of};
 ghost use Rattle.grib_repack.specs.Repacked.{repacked, repack_misfit};
 ghost use Rattle.grib_stream.specs.declared.outcome.Outcome.TheVariants.{Done, Memory, WriteFault};
 ghost use Rattle.grib_items.specs.declared.policy.Policy.{Policy};

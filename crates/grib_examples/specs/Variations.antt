@@ -1,7 +1,7 @@
 -- Worked messages with whole sections exchanged.
 use Rattle.std.specs.Prelude.{ℕ, ◌+◌, List, [], ◌∷◌, ◌++◌, drop}
 use Rattle.grib_base.specs.declared.fault.Reason.TheVariants.{Truncated}
-use Rattle.grib_base.specs.Rows.{refusal}
+use Rattle.grib_base.specs.Rules.{refusal}
 use Rattle.grib_base.specs.declared.fault.Fault.{Fault}
 use Rattle.grib2_sections.specs.Verdict.{Verdict, Refused as refused_by}
 use Rattle.grib_stream.specs.declared.outcome.Outcome.TheVariants.{Done, Refused, Kept}

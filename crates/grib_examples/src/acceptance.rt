@@ -3,7 +3,7 @@
 ghost use Rattle.std.specs.Prelude.{◌≡◌, ◌++◌, take, length, map};
 ghost use Rattle.std.specs.List.{range_with_len};
 ghost use Rattle.grib_base.specs.declared.fault.Reason.TheVariants.{BitWidth, BitmapSize, DataTooShort, DifferenceOrder, Edition, EndMark, ExtraOctets, FirstValueSign, GridSource, GridTemplate, GroupCount, GroupShape, GroupWidth, LengthDisagrees, ListShape, MissingManagement, NoEarlierBitmap, PngPacked, PointCount, ProductTemplate, ReferenceNotFinite, SectionLength, SectionOrder, TotalLength};
-ghost use Rattle.grib_base.specs.Rows.{refusal};
+ghost use Rattle.grib_base.specs.Rules.{refusal};
 ghost use Rattle.grib2_sections.specs.Verdict.{Accepted, Refused};
 ghost use Rattle.grib2_message.specs.Acceptance.{verdict_2};
 ghost use Rattle.grib_examples.specs.Hex.{hex, put};

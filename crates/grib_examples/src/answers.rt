@@ -3,9 +3,9 @@
 ghost use Rattle.std.specs.Prelude.{◌≡◌, None, Some, false, [], ◌++◌, codes, take, map, replicate};
 ghost use Rattle.std.specs.List.{range_with_len};
 ghost use Rattle.grib_base.specs.declared.fault.Reason.TheVariants.{Edition, GridType, PngPacked, ReferenceNotFinite};
-ghost use Rattle.grib_base.specs.Rows.{refusal};
+ghost use Rattle.grib_base.specs.Rules.{refusal};
 ghost use Rattle.grib_reasons.specs.declared.cause.Cause.TheVariants.{EditionOne, DecimalRange};
-ghost use Rattle.grib_repack.specs.declared.target.RepackTarget.TheVariants.{Simple};
+ghost use Rattle.grib_packing.specs.declared.target.RepackTarget.TheVariants.{Simple};
 ghost use Rattle.grib_command.specs.declared.job.Job.TheVariants.{Check, List, Stats, Dump, Set, Repack};
 ghost use Rattle.grib_dates.specs.declared.rule.Dates.TheVariants.{Any};
 ghost use Rattle.grib_run_spec.specs.Tasks.{answer};

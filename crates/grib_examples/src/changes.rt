@@ -3,7 +3,7 @@
 ghost use Rattle.std.specs.Prelude.{◌≡◌, [], ◌++◌, codes, drop, length};
 ghost use Rattle.grib_reasons.specs.declared.cause.Cause.TheVariants.{OutOfRange, SecondaryMissing};
 ghost use Rattle.grib_stream.specs.Acts.{written};
-ghost use Rattle.grib_repack.specs.declared.target.RepackTarget.TheVariants.{Simple, Complex, Spatial};
+ghost use Rattle.grib_packing.specs.declared.target.RepackTarget.TheVariants.{Simple, Complex, Spatial};
 ghost use Rattle.grib_command.specs.declared.job.Job.TheVariants.{Repack, Make};
 ghost use Rattle.grib_run_spec.specs.Tasks.{answer};
 ghost use Rattle.grib_examples.specs.Hex.{hex};

@@ -3,7 +3,7 @@
 ghost use Rattle.std.specs.Prelude.{◌≡◌, [], ◌∷◌, true, Some, None, replicate, take};
 ghost use Rattle.grib_base.specs.declared.fault.Reason.TheVariants.{Ccsds, SectionLength, BitWidth, DataTooShort, BlockCode, ScaledRange};
 ghost use Rattle.grib_base.specs.declared.profile.Profile.TheVariants.{Stated, Open};
-ghost use Rattle.grib_base.specs.Rows.{refusal, located};
+ghost use Rattle.grib_base.specs.Rules.{refusal, located};
 ghost use Rattle.grib_packing.specs.Entries.{packing_fault_under, data_fault, column_from};
 ghost use Rattle.grib_examples.specs.Coded.{coded_numbers, coded_values, four_bits};
 ghost use Rattle.grib_examples.specs.Hex.{hex, put};

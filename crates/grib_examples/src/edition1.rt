@@ -2,7 +2,7 @@
 
 ghost use Rattle.std.specs.Prelude.{◌≡◌, ◌++◌, take, length};
 ghost use Rattle.grib_base.specs.declared.fault.Reason.TheVariants.{BitmapSize, ExtraFlags, GridType, Harmonics, ListShape, NoGridSection, SecondOrder, SectionLength, TotalLength, Truncated};
-ghost use Rattle.grib_base.specs.Rows.{refusal};
+ghost use Rattle.grib_base.specs.Rules.{refusal};
 ghost use Rattle.grib2_sections.specs.Verdict.{Accepted, Refused};
 ghost use Rattle.grib1_sections.specs.Acceptance.{verdict_1, points_of, values_of};
 ghost use Rattle.grib_examples.specs.Hex.{hex, put};

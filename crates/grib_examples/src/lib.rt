@@ -13,5 +13,5 @@ pub mod grammar;
 pub mod lines;
 pub mod packings;
 pub mod references;
-pub mod rows;
+pub mod rules;
 pub mod streams;

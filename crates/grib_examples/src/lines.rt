@@ -1,7 +1,7 @@
 //! The lines that are printed of the worked messages.
 
 ghost use Rattle.std.specs.Prelude.{◌≡◌, ◌++◌, codes, pos, negsuc};
-ghost use Rattle.grib_base.specs.Rows.{refusal};
+ghost use Rattle.grib_base.specs.Rules.{refusal};
 ghost use Rattle.grib_base.specs.declared.fault.Reason.TheVariants.{ReferenceNotFinite};
 ghost use Rattle.grib_dyadic.specs.Reference.{binary};
 ghost use Rattle.grib_text.specs.Lines.{check_line, total_line, list_line, reference_line, point_lines};

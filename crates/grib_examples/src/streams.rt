@@ -1,7 +1,7 @@
 //! Streams of the worked messages among other octets.
 
 ghost use Rattle.std.specs.Prelude.{◌≡◌, [], ◌∷◌, ◌++◌, codes, take, replicate};
-ghost use Rattle.grib_base.specs.Rows.{refusal};
+ghost use Rattle.grib_base.specs.Rules.{refusal};
 ghost use Rattle.grib_base.specs.declared.fault.Reason.TheVariants.{Truncated, TotalLength};
 ghost use Rattle.grib_stream.specs.Stream.{stream, stream_of, message_after, Over, Refusing};
 ghost use Rattle.grib_command.specs.Judging.{judge};

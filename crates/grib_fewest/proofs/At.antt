@@ -7,8 +7,9 @@ use Rattle.grib_coding.specs.Coding.{Fits, block_count}
 use Rattle.grib_coding.specs.Items.{Item, IsItem, covered}
 use Rattle.grib_coding.specs.Numbers.{Told, told_after}
 use Rattle.grib_coding.specs.Reading.{entries_with}
-use Rattle.grib_block_writing.specs.Blocks.{block_at, reference_of}
-use Rattle.grib_block_writing.specs.Written.{skip_of}
+use Rattle.grib_coding.specs.Blocks.{reference_of}
+use Rattle.grib_block_writing.specs.Steps.{block_at}
+use Rattle.grib_coding.specs.Written.{skip_of}
 use Rattle.grib_block_writing.proofs.Zeros.{fits_block}
 use Rattle.grib_fewest.proofs.Items.{covers_some, entries-reference, length-entries, same_reference}
 

@@ -7,8 +7,8 @@ use Rattle.std.proofs.lemmas.List.Elements.{All-nil, All-cons, All-head, All-tai
 use Rattle.std.proofs.lemmas.List.Sums.{sum_by-cons}
 use Rattle.grib_coding.specs.Items.{next_pair, pair_of, pair_number, codes_of_pairs, joined}
 use Rattle.grib_coding.specs.Numbers.{Told, Reference, Code}
-use Rattle.grib_choice.specs.Choices.{high_sum, pair_sum}
-use Rattle.grib_block_writing.specs.Blocks.{code_of, codes_of, reference_of}
+use Rattle.grib_coding.specs.Choices.{high_sum, pair_sum}
+use Rattle.grib_coding.specs.Blocks.{code_of, codes_of, reference_of}
 
 -- each of the first is told by a code no more than that of the second at its place
 abbrev pub IsBelow : List Told → List Told → Type 0

@@ -10,7 +10,7 @@ use Rattle.grib_coding.specs.declared.coding.Coding.{Coding}
 use Rattle.grib_coding.specs.Coding.{identifier_width}
 use Rattle.grib_coding.specs.Items.{Run, Second, Split, Plain, IsItem, sequence, all_bits}
 use Rattle.grib_coding.specs.Reading.{Front, Ended, Found, Coded, coded_of, and_then, front_number, front_sequence, front_list, front_reference, front_zero, front_plain, front_split, front_kind, front_item, skipped}
-use Rattle.grib_block_writing.specs.Written.{coded_bits, reference_bits, skip_of}
+use Rattle.grib_coding.specs.Written.{coded_bits, reference_bits, skip_of}
 
 -- ---- parts that are found one after another
 

@@ -12,11 +12,12 @@ use Rattle.grib_coding.specs.Coding.{block_count}
 use Rattle.grib_coding.specs.Items.{Item, Run, Second, Split, Plain, IsItem, covered, item_codes, codes_of_pairs, joined}
 use Rattle.grib_coding.specs.Numbers.{Told, Reference, Code, told_after}
 use Rattle.grib_coding.specs.Reading.{coded_of, entries_with}
-use Rattle.grib_choice.specs.declared.choice.Choice.TheVariants.{Plain as AsPlain, Second as AsSecond, Split as AsSplit}
-use Rattle.grib_choice.specs.Choices.{bits_as, high_sum, pair_sum, chosen}
-use Rattle.grib_choice.proofs.Chosen.{chosen-least}
-use Rattle.grib_block_writing.specs.Blocks.{all_told, block_at, code_of, codes_of, reference_of, is_zero}
-use Rattle.grib_block_writing.specs.Written.{coded_bits, skip_of}
+use Rattle.grib_coding.specs.declared.choice.Choice.TheVariants.{Plain as AsPlain, Second as AsSecond, Split as AsSplit}
+use Rattle.grib_coding.specs.Choices.{bits_as, high_sum, pair_sum, chosen}
+use Rattle.grib_block_writing.proofs.Chosen.{chosen-least}
+use Rattle.grib_coding.specs.Blocks.{all_told, code_of, codes_of, reference_of, is_zero}
+use Rattle.grib_block_writing.specs.Steps.{block_at}
+use Rattle.grib_coding.specs.Written.{coded_bits, skip_of}
 use Rattle.grib_block_writing.proofs.Shapes.{length-told, within_blocks}
 use Rattle.grib_fewest.proofs.Sizes.{head_size, size-second, size-plain, size-split}
 use Rattle.grib_fewest.proofs.Below.{IsBelow, front_below, front_reference, high-le, pairs-le, pairs-sum, first-less, highs-sum, length-joined, length-pairs}

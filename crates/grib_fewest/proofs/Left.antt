@@ -8,10 +8,11 @@ use Rattle.grib_coding.specs.Coding.{block_count, identifier_width}
 use Rattle.grib_coding.specs.Items.{Run}
 use Rattle.grib_coding.specs.Numbers.{Told}
 use Rattle.grib_coding.specs.Reading.{coded_of}
-use Rattle.grib_choice.specs.Choices.{bits_as, chosen}
-use Rattle.grib_choice.specs.Runs.{run_room, run_number}
-use Rattle.grib_block_writing.specs.Blocks.{all_told, blocks_of, block_at, codes_of, reference_of, is_zero, zero_blocks}
-use Rattle.grib_block_writing.specs.Written.{bits_from, coded_bits, chosen_item, run_length, skip_of}
+use Rattle.grib_coding.specs.Choices.{bits_as, chosen}
+use Rattle.grib_coding.specs.Runs.{run_room, run_number}
+use Rattle.grib_coding.specs.Blocks.{all_told, blocks_of, codes_of, reference_of, is_zero, zero_blocks}
+use Rattle.grib_block_writing.specs.Steps.{block_at}
+use Rattle.grib_coding.specs.Written.{bits_from, coded_bits, chosen_item, run_length, skip_of}
 use Rattle.grib_block_writing.proofs.Shapes.{piece_at, length-pieces}
 use Rattle.grib_block_writing.proofs.Runs.{run_bits, block_bits, number_is, none_left}
 use Rattle.grib_block_writing.proofs.Read.{run_of, length-block}

@@ -12,10 +12,11 @@ use Rattle.grib_coding.specs.Coding.{Fits, block_count, greatest}
 use Rattle.grib_coding.specs.Items.{Run, Plain, IsItem, covered}
 use Rattle.grib_coding.specs.Numbers.{Told, Reference, Code, told_after}
 use Rattle.grib_coding.specs.Reading.{Coded, coded_of, entries_of, entries_with, is_over, is_too_long}
-use Rattle.grib_choice.specs.Choices.{chosen}
-use Rattle.grib_choice.specs.Runs.{run_room, run_number}
-use Rattle.grib_block_writing.specs.Blocks.{all_told, blocks_of, block_at, code_of, codes_of, reference_of}
-use Rattle.grib_block_writing.specs.Written.{chosen_item, coded_bits, items_of, run_length, skip_of, written}
+use Rattle.grib_coding.specs.Choices.{chosen}
+use Rattle.grib_coding.specs.Runs.{run_room, run_number}
+use Rattle.grib_coding.specs.Blocks.{all_told, blocks_of, code_of, codes_of, reference_of}
+use Rattle.grib_block_writing.specs.Steps.{block_at}
+use Rattle.grib_coding.specs.Written.{chosen_item, coded_bits, items_of, run_length, skip_of, written}
 use Rattle.grib_block_writing.proofs.Back.{block_entries, chosen_is_item, chosen_short, one_covered}
 use Rattle.grib_block_writing.proofs.Heads.{all_below}
 use Rattle.grib_block_writing.proofs.Lengths.{skip_few}

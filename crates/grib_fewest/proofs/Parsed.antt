@@ -10,7 +10,7 @@ use Rattle.grib_coding.specs.declared.fault.BlockFault.TheVariants.{Short, Block
 use Rattle.grib_coding.specs.Items.{covered}
 use Rattle.grib_coding.specs.Numbers.{Told}
 use Rattle.grib_coding.specs.Reading.{Found, Coded, Decoded, decoded, read_as, ended_by, unless_ended, unless_fault, after_item, padded, is_over, is_too_long, value_fault, item_fault, entries_of, front_item, items_from}
-use Rattle.grib_block_writing.specs.Written.{coded_bits}
+use Rattle.grib_coding.specs.Written.{coded_bits}
 use Rattle.grib_block_writing.proofs.Read.{ended, step}
 use Rattle.grib_block_writing.proofs.Zeros.{fits_block}
 use Rattle.grib_fewest.specs.Lists.{AreReadable, BeginWith, Cover, block_after, list_bits, told_by}

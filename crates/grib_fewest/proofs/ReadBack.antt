@@ -5,8 +5,8 @@ use Rattle.std.proofs.lemmas.Nat.{mod_below}
 use Rattle.std.proofs.lemmas.Bool.{le-ltb}
 use Rattle.std.proofs.lemmas.List.Elements.{All-nil, All-cons, All-head, All-tail, All-take, All-drop, All-get_or}
 use Rattle.std.proofs.lemmas.List.Sums.{position_or_len_is}
-use Rattle.grib_mapped.specs.Mapped.{mapped}
-use Rattle.grib_mapped.proofs.Folds.{mapped-within}
+use Rattle.grib_coding.specs.Mapped.{mapped}
+use Rattle.grib_coding.proofs.Folds.{mapped-within}
 use Rattle.grib_coding.specs.declared.coding.Coding.{Coding}
 use Rattle.grib_coding.specs.Coding.{Fits, block_count, is_mapped, is_padded, greatest}
 use Rattle.grib_coding.specs.declared.fault.BlockFault.{BlockFault}
@@ -14,7 +14,7 @@ use Rattle.grib_coding.specs.declared.fault.BlockFault.TheVariants.{Block}
 use Rattle.grib_coding.specs.Items.{Item, IsItem, covered}
 use Rattle.grib_coding.specs.Numbers.{Told, Reference, Code, is_reference, told, told_after}
 use Rattle.grib_coding.specs.Reading.{Found, Coded, Decoded, coded_of, decoded, read_as, entries_of, entries_with, front_item, is_over, is_too_long, item_fault, items_from, skipped, value_fault, behind as with_behind}
-use Rattle.grib_block_writing.specs.Written.{coded_bits, skip_of}
+use Rattle.grib_coding.specs.Written.{coded_bits, skip_of}
 use Rattle.grib_block_writing.proofs.Back.{front_back}
 use Rattle.grib_block_writing.proofs.Read.{ended, step}
 use Rattle.grib_block_writing.proofs.Shapes.{reference_as, within_blocks}

@@ -7,7 +7,8 @@ use Rattle.grib_coding.specs.declared.coding.Coding.{Coding}
 use Rattle.grib_coding.specs.Coding.{identifier_width}
 use Rattle.grib_coding.specs.Items.{Second, Split, Plain, sequence, all_bits}
 use Rattle.grib_coding.specs.Reading.{coded_of}
-use Rattle.grib_block_writing.specs.Written.{coded_bits, reference_bits, head_bits}
+use Rattle.grib_coding.specs.Written.{coded_bits, reference_bits}
+use Rattle.grib_block_writing.specs.Steps.{head_bits}
 use Rattle.grib_block_writing.proofs.Adding.{length-sequence}
 use Rattle.grib_block_writing.proofs.Heads.{second_parts, plain_parts, split_parts}
 

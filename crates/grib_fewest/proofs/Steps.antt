@@ -15,9 +15,10 @@ use Rattle.grib_coding.specs.Coding.{Fits, block_count}
 use Rattle.grib_coding.specs.Items.{Item, Run, Second, Split, Plain, covered}
 use Rattle.grib_coding.specs.Numbers.{Told, told_after}
 use Rattle.grib_coding.specs.Reading.{Coded, coded_of, entries_with}
-use Rattle.grib_choice.specs.Runs.{run_room, run_number}
-use Rattle.grib_block_writing.specs.Blocks.{all_told, block_at, code_of, codes_of, is_zero}
-use Rattle.grib_block_writing.specs.Written.{coded_bits, written}
+use Rattle.grib_coding.specs.Runs.{run_room, run_number}
+use Rattle.grib_coding.specs.Blocks.{all_told, code_of, codes_of, is_zero}
+use Rattle.grib_block_writing.specs.Steps.{block_at}
+use Rattle.grib_coding.specs.Written.{coded_bits, written}
 use Rattle.grib_block_writing.proofs.Zeros.{fits_block}
 use Rattle.grib_block_writing.proofs.Lengths.{length-run, skip_few}
 use Rattle.grib_fewest.specs.Lists.{Cover, AreInSegments, Tells, told_by, list_bits, block_after}

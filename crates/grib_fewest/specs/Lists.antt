@@ -7,9 +7,9 @@ use Rattle.grib_coding.specs.Coding.{block_count, identifier_width}
 use Rattle.grib_coding.specs.Items.{IsItem, covered}
 use Rattle.grib_coding.specs.Numbers.{Told, told_after}
 use Rattle.grib_coding.specs.Reading.{Coded, entries_of, is_too_long}
-use Rattle.grib_choice.specs.Runs.{run_room}
-use Rattle.grib_block_writing.specs.Blocks.{blocks_of}
-use Rattle.grib_block_writing.specs.Written.{coded_bits, items_of, skip_of}
+use Rattle.grib_coding.specs.Runs.{run_room}
+use Rattle.grib_coding.specs.Blocks.{blocks_of}
+use Rattle.grib_coding.specs.Written.{coded_bits, items_of, skip_of}
 
 -- the block that follows an item whose first block is this one
 abbrev pub block_after : Coding → ℕ → Coded → ℕ

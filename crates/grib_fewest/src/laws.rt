@@ -4,7 +4,7 @@ ghost use Rattle.std.specs.Prelude.{◌≡◌, ℕ, ◌*◌, ◌≤◌, List, �
 ghost use Rattle.grib_coding.specs.declared.coding.Coding.{Coding};
 ghost use Rattle.grib_coding.specs.Coding.{Fits, is_padded, greatest, block_count};
 ghost use Rattle.grib_coding.specs.Reading.{Coded, decoded, read_as};
-ghost use Rattle.grib_block_writing.specs.Written.{written};
+ghost use Rattle.grib_coding.specs.Written.{written};
 ghost use Rattle.grib_fewest.specs.Lists.{Tells, AreReadable, AreInSegments, BeginWith, items_written, list_bits, plain_bits};
 
 /// No list of items that tells the same numbers, and in which no run goes past its segment, has fewer bits than what is

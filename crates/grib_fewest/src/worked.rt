@@ -3,7 +3,7 @@
 ghost use Rattle.std.specs.Prelude.{◌≡◌, length};
 ghost use Rattle.grib_coding.specs.Reading.{decoded, read_as};
 ghost use Rattle.grib_coding.specs.Streams.{coding};
-ghost use Rattle.grib_block_writing.specs.Written.{written};
+ghost use Rattle.grib_coding.specs.Written.{written};
 ghost use Rattle.grib_fewest.specs.Lists.{list_bits};
 ghost use Rattle.grib_fewest.specs.Worked.{past_numbers, past_items};
 

@@ -9,8 +9,11 @@ use Rattle.std.proofs.lemmas.List.FromFn.{map-range_with_len_more}
 use Rattle.std.proofs.lemmas.Option.{slice_get-map, slice_get_read}
 use Rattle.std.proofs.lemmas.Simd.{map-map}
 use Rattle.grib_base.specs.declared.profile.Profile.{Profile}
-use Rattle.grib_io.specs.Shelves.{Held}
-use Rattle.grib_table.specs.Fronts.{Tells}
+use Rattle.grib_io.specs.Shelves.{Held, Tells}
+use Rattle.grib_io.specs.Reading.{IsFirst, StopsAt}
+use Rattle.grib_io.specs.declared.reading.ReadStop.{ReadStop}
+use Rattle.grib_io.specs.declared.reading.ReadStop.TheVariants as reads
+use Rattle.grib_file.specs.Stops.{stop_of_read}
 use Rattle.grib_stream.specs.declared.outcome.FileRefusal.TheVariants as refusals
 use Rattle.grib_stream.specs.Answer.{refusal_after}
 use Rattle.grib_stream.specs.Searching.{Markless}
@@ -228,22 +231,42 @@ exit_with P profile octets (Err e) stop none err = subst (IsNoFile profile octet
 
 -- ---- what stands under a name
 
-stands : (profile : Profile) (shelf : Option Held) (name octets : List ℕ) (file : Filed) → Tells shelf name (λ text. text ≡ Some octets) → filed profile (Some octets) ≡ file
+-- all octets under a name are what stands there
+all_stand : (profile : Profile) (octets : List ℕ) (text : Option (List ℕ)) → IsFirst None octets text → filed profile text ≡ filed profile (Some octets)
+all_stand profile octets None is = absurd is
+all_stand profile octets (Some all) is = ap (λ xs. filed profile (Some xs)) (sym is)
+
+stands : (profile : Profile) (shelf : Option Held) (name octets : List ℕ) (file : Filed) → Tells shelf name (IsFirst None octets) → filed profile (Some octets) ≡ file
     → StandsAs profile shelf name file
 stands profile None name octets file told is = (Some octets, tt, is)
-stands profile (Some held) name octets file told is = (held name, refl, ap (filed profile) told ∙ is)
+stands profile (Some held) name octets file told is = (held name, refl, all_stand profile octets (held name) told ∙ is)
 
-pub stands_good : (profile : Profile) (shelf : Option Held) (name octets : List ℕ) (file : FileFields) → Tells shelf name (λ text. text ≡ Some octets) → file.profile ≡ profile
+pub stands_good : (profile : Profile) (shelf : Option Held) (name octets : List ℕ) (file : FileFields) → Tells shelf name (IsFirst None octets) → file.profile ≡ profile
     → filed profile (Some octets) ≡ Good file.fields → ReadsFile (Ok file) profile shelf name
 stands_good profile shelf name octets file told same is = (same, stands profile shelf name octets (Good file.fields) told is)
 
-stands_none : (profile : Profile) (shelf : Option Held) (name octets : List ℕ) (stop : FileStop) → Tells shelf name (λ text. text ≡ Some octets) → IsNoFile profile octets stop
+stands_none : (profile : Profile) (shelf : Option Held) (name octets : List ℕ) (stop : FileStop) → Tells shelf name (IsFirst None octets) → IsNoFile profile octets stop
     → ReadsFile (Err stop) profile shelf name
 stands_none profile shelf name octets (stops.Refused refusal) told is = stands profile shelf name octets (Refused refusal) told is
 stands_none profile shelf name octets stops.ShelfFault told is = tt
 stands_none profile shelf name octets stops.Memory told is = tt
 
-pub stands_exit : (profile : Profile) (shelf : Option Held) (name octets : List ℕ) (result : Result FileFields FileStop) (stop : FileStop) → Tells shelf name (λ text. text ≡ Some octets)
+pub stands_exit : (profile : Profile) (shelf : Option Held) (name octets : List ℕ) (result : Result FileFields FileStop) (stop : FileStop) → Tells shelf name (IsFirst None octets)
     → IsNoFile profile octets stop → IsErrAnd result (λ e. e ≡ stop) → ReadsFile result profile shelf name
 stands_exit profile shelf name octets (Ok file) stop told none err = absurd err
 stands_exit profile shelf name octets (Err e) stop told none err = subst (λ s. ReadsFile (Err s) profile shelf name) (sym err) (stands_none profile shelf name octets stop told none)
+
+-- nothing was read
+absent : (profile : Profile) (shelf : Option Held) (name : List ℕ) → Tells shelf name (λ text. text ≡ None) → StandsAs profile shelf name (Refused refusals.Absent)
+absent profile None name told = (None, tt, refl)
+absent profile (Some held) name told = (held name, refl, ap (filed profile) told)
+
+unread : (profile : Profile) (shelf : Option Held) (name : List ℕ) (stop : ReadStop) → Tells shelf name (StopsAt stop) → ReadsFile (Err (stop_of_read stop)) profile shelf name
+unread profile shelf name reads.Absent told = absent profile shelf name told
+unread profile shelf name reads.Failed told = tt
+unread profile shelf name reads.Memory told = tt
+
+pub by_stop : (profile : Profile) (shelf : Option Held) (name : List ℕ) (result : Result FileFields FileStop) (stop : ReadStop) → Tells shelf name (StopsAt stop)
+    → IsErrAnd result (λ e. e ≡ stop_of_read stop) → ReadsFile result profile shelf name
+by_stop profile shelf name (Ok file) stop told err = absurd err
+by_stop profile shelf name (Err e) stop told err = subst (λ s. ReadsFile (Err s) profile shelf name) (sym err) (unread profile shelf name stop told)

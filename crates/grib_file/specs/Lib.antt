@@ -3,4 +3,3 @@ pub mod Read
 pub mod Stops
 pub mod Entries
 pub mod Finding
-pub mod Fronts

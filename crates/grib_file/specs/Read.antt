@@ -2,8 +2,7 @@
 use Rattle.std.specs.Prelude.{◌≡◌, ℕ, ◌≤◌, List, Option, None, Some, Result, Ok, Err, length, true}
 use Rattle.grib_base.specs.declared.profile.Profile.{Profile}
 use Rattle.grib_io.specs.Outside.{Counted}
-use Rattle.grib_io.specs.Shelves.{Held}
-use Rattle.grib_table.specs.Tabled.{Stood}
+use Rattle.grib_io.specs.Shelves.{Held, Stood}
 use Rattle.grib_stream.specs.Stream.{Message, begins}
 use Rattle.grib_command.specs.Judging.{judge_under, fields_of}
 use Rattle.grib_file.specs.Filed.{FieldOf, FileFields, Filed, Good, Refused, filed}

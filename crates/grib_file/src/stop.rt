@@ -1,10 +1,10 @@
 //! Why no file is read.
 
 ghost use Rattle.std.specs.Prelude.{◌≡◌};
-ghost use Rattle.grib_file.specs.Stops.{stop_of_shelf};
+ghost use Rattle.grib_file.specs.Stops.{stop_of_read};
 ghost use Rattle.grib_file.specs.declared.stop.FileStop.TheVariants.{Memory};
 
-use grib_io::ShelfStop;
+use grib_io::ReadStop;
 use grib_stream::FileRefusal;
 use std::alloc::AllocError;
 use thiserror::Error;
@@ -31,13 +31,14 @@ impl From<AllocError> for FileStop {
     }
 }
 
-impl From<ShelfStop> for FileStop {
-    ghost from_gives = { λ shelf stop. stop ≡ stop_of_shelf shelf };
+impl From<ReadStop> for FileStop {
+    ghost from_gives = { λ read stop. stop ≡ stop_of_read read };
 
-    fn from(stop: ShelfStop) -> FileStop {
+    fn from(stop: ReadStop) -> FileStop {
         match stop {
-            ShelfStop::Absent => FileStop::Refused(FileRefusal::Absent),
-            ShelfStop::Failed => FileStop::ShelfFault,
+            ReadStop::Absent => FileStop::Refused(FileRefusal::Absent),
+            ReadStop::Failed => FileStop::ShelfFault,
+            ReadStop::Memory => FileStop::Memory,
         }
     }
 }

@@ -8,10 +8,10 @@ use Rattle.std.proofs.lemmas.Nat.{pow_pos}
 use Rattle.grib_bits.specs.Bits.{num}
 use Rattle.grib_bits.specs.Plain.{plain}
 use Rattle.grib_base.specs.declared.fault.Fault.{Fault}
-use Rattle.grib_base.specs.Rows.{first_place}
+use Rattle.grib_base.specs.Rules.{first_place}
 use Rattle.grib_base.proofs.Places.{NoneOf, first_place-none}
 use Rattle.grib_packing.proofs.Fields.{length-fields, plain-add, plain-fields}
-use Rattle.grib_groups.proofs.Taken.{packed_bits-cons}
+use Rattle.grib_group_reading.proofs.Taken.{packed_bits-cons}
 use Rattle.grib_base.specs.declared.code.Code.{Code}
 use Rattle.grib_base.specs.declared.code.Code.TheVariants.{Present, Primary, Secondary}
 use Rattle.grib_packing.specs.declared.layout.Layout.{Layout}
@@ -19,9 +19,9 @@ use Rattle.grib_packing.specs.declared.group.Group.{Group}
 use Rattle.grib_packing.specs.Groups.{code_of, codes_from, groups_from, packed_bits}
 use Rattle.grib_packing.specs.Groupings.{width_of, greatest, smallest, present_codes, is_present, is_primary, is_secondary, runs, joined, IsGrouping}
 use Rattle.grib_packing.specs.Packed.{reference_of, packed_number, fields, group_fields}
-use Rattle.grib_packing.specs.Span.{IsTold}
-use Rattle.grib_packing.proofs.Spans.{small_run}
-use Rattle.grib_packing.proofs.Bounds.{IsWithin, within_all, all_below, greatest-within}
+use Rattle.grib_codes.specs.Span.{IsTold}
+use Rattle.grib_codes.proofs.Spans.{small_run}
+use Rattle.grib_codes.proofs.Bounds.{IsWithin, within_all, all_below, greatest-within}
 use Rattle.grib_groups.proofs.Parts.{sum-more}
 use Rattle.grib_groups.proofs.Packable.{packable, group_fields-some, group_fields-none}
 use Rattle.grib_groups.proofs.Marks.{wide_back, same_back}
@@ -208,7 +208,7 @@ pub length-runs : (lengths : List ℕ) (codes : List Code) → length (runs leng
 length-runs [] codes = refl
 length-runs (n ∷ ns) codes = ap suc (length-runs ns (drop n codes))
 
--- ---- the rows
+-- ---- the rules
 
 none_wide : (ws : List ℕ) → All (λ w. w ≤ 32) ws → NoneOf (λ w. nat_lt 32 w) ws
 none_wide [] each = tt
@@ -217,8 +217,8 @@ none_wide (w ∷ ws) each = (le-ltb 32 w (All-head (λ w. w ≤ 32) w ws each), 
 pub no_wide : (ws : List ℕ) → All (λ w. w ≤ 32) ws → first_place (λ w. nat_lt 32 w) ws ≡ 0
 no_wide ws each = first_place-none (λ w. nat_lt 32 w) ws (none_wide ws each)
 
-pub no_row : (a : Bool) (f : Fault) → a ≡ false → cond a (Some f) None ≡ None
-no_row a f e = rw e refl
+pub no_rule : (a : Bool) (f : Fault) → a ≡ false → cond a (Some f) None ≡ None
+no_rule a f e = rw e refl
 
-pub no_rows : (a b c : Bool) (f g h : Fault) → a ≡ false → b ≡ false → c ≡ false → cond a (Some f) (cond b (Some g) (cond c (Some h) None)) ≡ None
-no_rows a b c f g h ea eb ec = rw (ea, eb, ec) refl
+pub no_rules : (a b c : Bool) (f g h : Fault) → a ≡ false → b ≡ false → c ≡ false → cond a (Some f) (cond b (Some g) (cond c (Some h) None)) ≡ None
+no_rules a b c f g h ea eb ec = rw (ea, eb, ec) refl

@@ -12,7 +12,7 @@ use Rattle.grib_base.specs.declared.code.Code.{Code}
 use Rattle.grib_base.specs.declared.code.Code.TheVariants.{Present, Primary, Secondary}
 use Rattle.grib_packing.specs.Groupings.{is_present}
 use Rattle.grib_packing.specs.Packed.{fields}
-use Rattle.grib_packing.specs.Span.{IsTold}
+use Rattle.grib_codes.specs.Span.{IsTold}
 use Rattle.grib_packing.proofs.Left.{Left, left_more, left_room}
 use Rattle.grib_groups.specs.Encoding.{IsNumber, IsPackable}
 

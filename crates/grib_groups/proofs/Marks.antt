@@ -9,10 +9,10 @@ use Rattle.grib_packing.specs.declared.group.Group.{Group}
 use Rattle.grib_packing.specs.Groups.{code_of, marked}
 use Rattle.grib_packing.specs.Groupings.{digits, width_of, greatest, smallest, present_codes, is_present, is_primary, is_secondary}
 use Rattle.grib_packing.specs.Packed.{reference_of, packed_number}
-use Rattle.grib_packing.specs.Span.{IsTold}
-use Rattle.grib_packing.proofs.Spans.{width_by, width_of-by, reference_by, reference_of-by}
+use Rattle.grib_codes.specs.Span.{IsTold}
+use Rattle.grib_codes.proofs.Spans.{width_by, width_of-by, reference_by, reference_of-by}
 use Rattle.grib_packing.proofs.Digits.{digits-lt, digits-some}
-use Rattle.grib_packing.proofs.Bounds.{IsWithin}
+use Rattle.grib_codes.proofs.Bounds.{IsWithin}
 use Rattle.grib_groups.proofs.Packable.{width-numbers, reference-numbers}
 
 -- ---- marks

@@ -4,9 +4,9 @@ use Rattle.std.specs.List.{list_any}
 use Rattle.grib_base.specs.declared.code.Code.{Code}
 use Rattle.grib_packing.specs.Groupings.{greatest, smallest, present_codes, is_present, is_primary, is_secondary, runs}
 use Rattle.grib_packing.specs.Packed.{fields, group_fields, packed_number, reference_of}
-use Rattle.grib_packing.specs.Span.{IsBelow}
-use Rattle.grib_packing.proofs.Bounds.{width-few}
-use Rattle.grib_packing.proofs.Spans.{reference_by, reference_of-by, smallest_at_most, small_run}
+use Rattle.grib_codes.specs.Span.{IsBelow}
+use Rattle.grib_codes.proofs.Bounds.{width-few}
+use Rattle.grib_codes.proofs.Spans.{reference_by, reference_of-by, smallest_at_most, small_run}
 use Rattle.grib_groups.specs.declared.measuring.Measure.{Measure}
 use Rattle.grib_groups.specs.Encoding.{AreMeasures, IsMeasure, measured_fields}
 use Rattle.grib_groups.proofs.Parts.{runs-next}

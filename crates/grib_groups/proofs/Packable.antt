@@ -7,10 +7,10 @@ use Rattle.grib_base.specs.declared.code.Code.{Code}
 use Rattle.grib_base.specs.declared.code.Code.TheVariants.{Present, Primary, Secondary}
 use Rattle.grib_packing.specs.Groupings.{digits, width_of, greatest, smallest, present_codes, is_present, is_primary, is_secondary}
 use Rattle.grib_packing.specs.Packed.{reference_of, group_fields, fields, packed_number}
-use Rattle.grib_packing.specs.Span.{IsBelow}
-use Rattle.grib_packing.proofs.Spans.{width_of-by, reference_of-by, small_run}
+use Rattle.grib_codes.specs.Span.{IsBelow}
+use Rattle.grib_codes.proofs.Spans.{width_of-by, reference_of-by, small_run}
 use Rattle.grib_packing.proofs.Digits.{digits-lt}
-use Rattle.grib_packing.proofs.Bounds.{IsWithin, within_all}
+use Rattle.grib_codes.proofs.Bounds.{IsWithin, within_all}
 use Rattle.grib_groups.specs.Encoding.{IsPackable}
 
 some_width : (b : Bool) (d : ℕ) → 0 < cond b 0 d → cond b 0 d ≡ d

@@ -8,7 +8,7 @@ use Rattle.grib_bits.specs.Bits.{bits_of}
 use Rattle.grib_bits.specs.Written.{Written}
 use Rattle.grib_base.specs.declared.code.Code.{Code}
 use Rattle.grib_packing.specs.Groupings.{IsGrouping, joined, runs, length_bits, width_of, reference_bits_of, width_bits_of}
-use Rattle.grib_packing.specs.Span.{IsBelow, IsTold}
+use Rattle.grib_codes.specs.Span.{IsBelow, IsTold}
 use Rattle.grib_packing.specs.Packed.{fields, padded, reference_of, group_fields, group_parts}
 use Rattle.grib_packing.proofs.Left.{Left, left_more, left_room, padded-more}
 

@@ -5,11 +5,11 @@ use Rattle.std.proofs.lemmas.List.{take-replicate, drop-replicate}
 use Rattle.std.proofs.lemmas.List.Elements.{All-head, All-tail}
 use Rattle.grib_base.specs.declared.code.Code.{Code}
 use Rattle.grib_base.specs.declared.code.Code.TheVariants.{Present, Primary, Secondary}
-use Rattle.grib_packing.specs.declared.span.Span.{Span}
-use Rattle.grib_packing.specs.Span.{IsSpan}
+use Rattle.grib_codes.specs.declared.span.Span.{Span}
+use Rattle.grib_codes.specs.Span.{IsSpan}
 use Rattle.grib_packing.specs.Groupings.{IsGrouping, digits, greatest, smallest, present_codes, is_present, is_primary, is_secondary, is_uniform, joined, runs, width_of, width_bits_of}
 use Rattle.grib_packing.specs.Packed.{fields, group_fields, reference_of}
-use Rattle.grib_packing.proofs.Spans.{reference_of-by}
+use Rattle.grib_codes.proofs.Spans.{reference_of-by}
 use Rattle.grib_groups.proofs.Parts.{sum-more}
 
 -- ---- what such a run has

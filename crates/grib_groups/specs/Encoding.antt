@@ -3,12 +3,12 @@ use Rattle.std.specs.Prelude.{◌≡◌, ℕ, ◌+◌, ◌-◌, ◌^◌, ◌<◌
 use Rattle.grib_bits.specs.Written.{Written}
 use Rattle.grib_base.specs.declared.code.Code.{Code}
 use Rattle.grib_base.specs.declared.code.Code.TheVariants.{Present, Primary, Secondary}
-use Rattle.grib_base.specs.Rows.{first_fault}
+use Rattle.grib_base.specs.Rules.{first_fault}
 use Rattle.grib_packing.specs.declared.layout.Layout.{Layout}
 use Rattle.grib_packing.specs.Groupings.{IsGrouping, is_present, length_bits, reference_bits_of, runs, width_bits_of, width_of}
 use Rattle.grib_packing.specs.Packed.{fields, packed_number, reference_of}
-use Rattle.grib_packing.specs.Groups.{group_rows, grouped, lengths, list_rows, widths}
-use Rattle.grib_packing.specs.Span.{IsTold}
+use Rattle.grib_packing.specs.Groups.{group_rules, grouped, lengths, list_rules, widths}
+use Rattle.grib_codes.specs.Span.{IsTold}
 use Rattle.grib_groups.specs.declared.measuring.Measure.{Measure}
 
 -- a number is no less than the reference of its group, and its packed number has no more bits than the width
@@ -75,11 +75,11 @@ pub record LaysOut (layout : Layout) (codes : List Code) (lengths : List ℕ) : 
   pub last_length : layout.last_length ≡ get_or lengths (length lengths - 1) 0
   pub coded_length_bits : layout.length_bits ≡ length_bits
 
--- a Section 7 with groups after `skip` octets of extra descriptors reads back: its rows pass, its widths are
+-- a Section 7 with groups after `skip` octets of extra descriptors reads back: its rules pass, its widths are
 -- 32 bits at most, its lengths are those of all codes, and the codes are these
 pub record ReadsBack (layout : Layout) (s7 : List ℕ) (skip : ℕ) (codes : List Code) : Type 0 where
-  pub list_rows_pass : first_fault (list_rows layout (length s7) skip) ≡ None
+  pub list_rules_pass : first_fault (list_rules layout (length s7) skip) ≡ None
   pub widths_fit : All (λ w. w ≤ 32) (widths layout (drop (5 + skip) s7))
   pub total : sum (lengths layout (drop (5 + skip) s7)) ≡ length codes
-  pub group_rows_pass : first_fault (group_rows layout s7 skip (length codes)) ≡ None
+  pub group_rules_pass : first_fault (group_rules layout s7 skip (length codes)) ≡ None
   pub codes_stand : grouped layout (drop (5 + skip) s7) ≡ codes

@@ -1,8 +1,2 @@
-pub mod Taking
-pub mod CodeRuns
-pub mod Table
-pub mod Going
-pub mod Lists
-pub mod Laws
+pub mod Decoding
 pub mod Encoding
-pub mod Feeding

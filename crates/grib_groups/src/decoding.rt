@@ -1,16 +1,16 @@
 //! The codes of a whole Section 7.
 
 ghost use Rattle.std.specs.Prelude.{◌≡◌, ◌+◌, ◌^◌, length, drop, None, MatchResult};
-ghost use Rattle.grib_base.specs.Rows.{first_fault_at};
-ghost use Rattle.grib_packing.specs.Groups.{grouped, group_rows};
-ghost use Rattle.grib_groups.specs.Lists.{CodesRoom, CodesTook, HasLists};
+ghost use Rattle.grib_base.specs.Rules.{first_fault_at};
+ghost use Rattle.grib_packing.specs.Groups.{grouped, group_rules};
+ghost use Rattle.grib_groups.specs.Decoding.{CodesRoom, CodesTook, codes-none, codes-more, codes-fewer, codes-room};
+ghost use Rattle.grib_group_reading.specs.Lists.{HasLists};
 ghost use Rattle.grib_base.specs.Faults.{IsReadFault};
-ghost use Rattle.grib_groups.specs.Laws.{codes-none, codes-more, codes-fewer, codes-room};
 
-use crate::lists::{Lists, octets_of_lists};
-use crate::{Fed, Layout, RunTaker, Taker};
+use crate::Layout;
 use byteorder::{BigEndian, ByteOrder};
 use grib_base::{Code, ReadFault, Section, push_within};
+use grib_group_reading::{Fed, Lists, RunTaker, Taker, octets_of_lists};
 use std::alloc::Global;
 
 /// Codes one after another, for which there is memory.
@@ -64,7 +64,7 @@ pub fn decode_groups(
     count: u32,
 ) -> Result<Vec<Code>, ReadFault>
     requires lists { HasLists layout.now skip (length section7.now.octets.now) }
-    ensures { let expected = first_fault_at section7.now.start (group_rows layout.now section7.now.octets.now skip count) in MatchResult result
+    ensures { let expected = first_fault_at section7.now.start (group_rules layout.now section7.now.octets.now skip count) in MatchResult result
         (λ codes. (expected ≡ None)
         × (codes.items ≡ grouped layout.now (drop (5 + skip) section7.now.octets.now)))
         (IsReadFault expected) }

@@ -6,14 +6,14 @@ ghost use Rattle.grib_bits.specs.Bits.{bits_of};
 ghost use Rattle.grib_base.specs.declared.code.Code.TheVariants.{Primary};
 ghost use Rattle.grib_packing.specs.Groupings.{is_present, joined, length_bits, runs, width_of};
 ghost use Rattle.grib_packing.specs.Packed.{fields, group_fields, group_parts, packed_number, padded, reference_of};
-ghost use Rattle.grib_packing.specs.Span.{IsTold};
+ghost use Rattle.grib_codes.specs.Span.{IsTold};
 ghost use Rattle.grib_groups.specs.Encoding.{AddsBits, AreGrouped, AreMeasures, AreNumbers, IsNumber, IsPackable, LaysOut, measured_fields, packed_fields};
 
 use crate::Layout;
 use crate::measuring::{Measure, later_measures, next_measure};
 use grib_base::Code;
 use grib_bits::BitWriter;
-use grib_packing::{Codes, Span, is_number};
+use grib_codes::{Codes, Span, is_number};
 
 /// Writes codes as groups of these lengths: the references, the widths, the lengths less 1 in 6 bits each
 /// and the packed numbers, each of the four padded with zero bits to a whole octet (WMO-No. 306, Volume

@@ -2,10 +2,10 @@
 
 ghost use Rattle.std.specs.Prelude.{◌≡◌, ◌≤◌, ◌∷◌, [], drop, length, vec_len, All, IfOk};
 ghost use Rattle.grib_packing.specs.Groupings.{IsGrouping, runs};
-ghost use Rattle.grib_packing.specs.Span.{IsBelow};
+ghost use Rattle.grib_codes.specs.Span.{IsBelow};
 ghost use Rattle.grib_groups.specs.Encoding.{AreMeasures, IsMeasure};
 
-use grib_packing::Codes;
+use grib_codes::Codes;
 use std::alloc::{AllocError, Global};
 
 /// What the codes of a group come to.

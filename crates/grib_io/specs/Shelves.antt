@@ -36,6 +36,16 @@ Turns None now name Change = Unit {0}
 Turns (Some before) None name Change = ⊥
 Turns (Some before) (Some now) name Change = Change (before name) (now name)
 
+-- this stands under the name, where the shelf tells it
+abbrev pub Stood : Option Held → List ℕ → Option (List ℕ) → Type 0
+Stood None name text = Unit {0}
+Stood (Some held) name text = text ≡ held name
+
+-- this is so of what stands under the name, where the shelf tells it
+abbrev pub Tells : Option Held → List ℕ → (Option (List ℕ) → Type 0) → Type 0
+Tells None name Is = Unit {0}
+Tells (Some held) name Is = Is (held name)
+
 -- The front of the room has `count` octets from the offset on. None for room that is not empty are given
 -- exactly where the offset is at or past the end.
 abbrev pub Copies : List ℕ → ℕ → ℕ → List ℕ → Type 0

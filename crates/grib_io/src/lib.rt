@@ -12,6 +12,7 @@ mod memory_shelf;
 mod memory_sink;
 mod memory_source;
 mod outside;
+mod reading;
 mod storage;
 mod system_folder;
 
@@ -24,4 +25,5 @@ pub use memory_shelf::MemoryShelf;
 pub use memory_sink::MemorySink;
 pub use memory_source::MemorySource;
 pub use outside::{Failed, Shelf, ShelfStop, Sink, Source, Stop};
+pub use reading::{ReadStop, octets_under};
 pub use system_folder::{SystemFile, SystemFolder};

@@ -4,9 +4,9 @@ use Rattle.std.proofs.lemmas.Bool.{cases_lt, false≢true}
 use Rattle.std.specs.declared.result.Result.{Result}
 use Rattle.std.specs.Io.KnownBytes.{Appends}
 use Rattle.std.specs.List.{concat}
-use Rattle.grib_base.specs.Rows.{first_fault}
+use Rattle.grib_base.specs.Rules.{first_fault}
 use Rattle.grib_base.specs.declared.fault.Fault.{Fault}
-use Rattle.grib2_sections.specs.Head.{head_rows, head_of}
+use Rattle.grib2_sections.specs.Head.{head_rules, head_of}
 use Rattle.grib_reasons.specs.declared.cause.Kept.{Kept}
 use Rattle.grib_io.specs.Outside.{AppendsFront}
 use Rattle.grib_stream.specs.declared.outcome.Outcome.{Outcome}
@@ -210,7 +210,7 @@ quiet_next plan totals place octets false true fault = refl
 
 -- where a stated length is not there
 quiet_by : (plan : Plan) → IsLawful plan.task → (totals : ItemTotals) (place : ℕ) (octets : List ℕ) (j : Judgement)
-    → ((total : ℕ) → plan.task.judge octets ≡ Message total → States octets total) → first_fault (head_rows octets) ≡ None → length octets < (head_of octets).total
+    → ((total : ℕ) → plan.task.judge octets ≡ Message total → States octets total) → first_fault (head_rules octets) ≡ None → length octets < (head_of octets).total
     → plan.task.judge octets ≡ j → is_gone (step plan true totals place octets) ≡ false
 quiet_by plan lawful totals place octets (Message total) states none fewer so =
     let there : total ≤ length octets = lawful.there octets total so in
@@ -225,7 +225,7 @@ no_more (x ∷ xs) few = absurd (omega (arith, few))
 
 pub awaits_more : (plan : Plan) → IsLawful plan.task → ((octets : List ℕ) (total : ℕ) → plan.task.judge octets ≡ Message total → States octets total)
     → (totals : ItemTotals) (place : ℕ) (octets : List ℕ) (wanted : ℕ) → begins octets ≡ true → step plan true totals place octets ≡ Waits → length octets < wanted
-    → (length octets + 1 < wanted → (first_fault (head_rows octets) ≡ None) × ((head_of octets).total ≡ wanted)) → Awaits plan true totals place octets wanted
+    → (length octets + 1 < wanted → (first_fault (head_rules octets) ≡ None) × ((head_of octets).total ≡ wanted)) → Awaits plan true totals place octets wanted
 awaits_more plan lawful states totals place octets wanted begun waits fewer stated = record {
   unknown = inr (begun, waits);
   fewer = fewer;

@@ -1,6 +1,6 @@
 -- A run does not end with what it passes.
 use Rattle.std.proofs.Common.{◌≡◌, ◌≢◌, ℕ, zero, suc, ◌+◌, ◌-◌, Bool, true, false, cond, ◌&&◌, List, [], ◌∷◌, length, take, nat_lt, Option, None, Some, is_some, refl, sym, subst}
-use Rattle.grib_base.specs.Rows.{choose}
+use Rattle.grib_base.specs.Rules.{choose}
 use Rattle.grib_base.specs.declared.fault.Fault.{Fault}
 use Rattle.grib_reasons.specs.declared.cause.Kept.{Kept}
 use Rattle.grib_stream.specs.declared.outcome.Outcome.{Outcome}
@@ -122,20 +122,8 @@ no_refusal task texts policy limit input none some =
 -- ---- messages that cannot be changed
 
 unkept : (outcome : Outcome) → kept_of outcome ≡ None → is_kept outcome ≡ false
-unkept outcomes.Done is = refl
-unkept (outcomes.Passed refused kept) is = refl
-unkept outcomes.Differs is = refl
-unkept (outcomes.Usage word) is = refl
-unkept (outcomes.Refused refusal) is = refl
 unkept (outcomes.Kept kept) is = let no : ⊥ = cc in absurd no
-unkept (outcomes.TableRefused refusal) is = refl
-unkept (outcomes.SurfacesRefused refusal) is = refl
-unkept (outcomes.FileRefused refusal) is = refl
-unkept outcomes.ReadFault is = refl
-unkept outcomes.WriteFault is = refl
-unkept outcomes.ShelfFault is = refl
-unkept outcomes.Memory is = refl
-unkept outcomes.InputTooLong is = refl
+unkept other is = refl
 
 ended_unkept : (task : Task) (end : End) (counts : Counts) → is_kept (outcome_of (on_end task counts end).result) ≡ false
 ended_unkept task (Over skipped) counts = refl

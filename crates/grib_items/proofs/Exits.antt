@@ -5,21 +5,21 @@ use Rattle.std.proofs.Math.Seq.{take-append-add}
 use Rattle.std.specs.declared.option.Option.{Option}
 use Rattle.std.specs.declared.result.Result.{Result}
 use Rattle.std.specs.Io.KnownBytes.{Consumes, IsAtEnd}
-use Rattle.grib_base.specs.Rows.{choose}
+use Rattle.grib_base.specs.Rules.{choose}
 use Rattle.grib_stream.specs.declared.outcome.Outcome.{Outcome}
 use Rattle.grib_stream.specs.declared.outcome.Outcome.TheVariants.{ReadFault, InputTooLong}
 use Rattle.grib_stream.specs.Stream.{begins}
 use Rattle.grib_stream.specs.Searching.{Unmarked}
 use Rattle.grib_stream.specs.Reading.{Gathers, Takes}
-use Rattle.grib_stream.specs.Outcomes.{is_broken, is_cut_within}
+use Rattle.grib_stream.specs.Outcomes.{is_broken, is_cut_within, is_whole}
 use Rattle.grib_stream.specs.Task.{IsLawful}
-use Rattle.grib_stream.proofs.Exits.{cut_within}
+use Rattle.grib_stream.proofs.ByKind.{cut_within, broken_early}
 use Rattle.grib_stream.proofs.Fronts.{Fronted, front_start, front_passed, front_message, front_read}
 use Rattle.grib_stream.proofs.Windows.{takes_none, takes_more, takes_still}
 use Rattle.grib_items.specs.declared.policy.ItemTotals.{ItemTotals}
 use Rattle.grib_items.specs.Deeds.{Deeds, deeds, no_deeds, then, Outside, Done, DoneFront}
 use Rattle.grib_items.specs.Answer.{Answered, after, ends_with, done, totals_by, no_counts}
-use Rattle.grib_items.specs.Laws.{nothing, is_whole}
+use Rattle.grib_items.specs.Laws.{nothing}
 use Rattle.grib_items.specs.Run.{answer_at, answer_of, answer_within, Gives, Runs}
 use Rattle.grib_items.specs.Steps.{Plan, Step, Goes, Stops, Waits, step, deeds_of}
 use Rattle.grib_items.specs.Turning.{EndsStep}
@@ -27,7 +27,7 @@ use Rattle.grib_items.proofs.Messages.{gone_message}
 use Rattle.grib_items.proofs.Effects.{done_none, done_then, done_still, then_nothing, front_whole, front_more, front_after}
 use Rattle.grib_items.proofs.Steps.{skipping}
 use Rattle.grib_items.proofs.SoFar.{Follows, follows_open, SoFar, nothing_so_far, so_far_read, so_far_passed, so_far_gone, answer_follows}
-use Rattle.grib_items.proofs.Stopping.{step_ends, broken_before_end}
+use Rattle.grib_items.proofs.Stopping.{step_ends}
 
 -- ---- the answer to an input whose front was taken
 
@@ -300,7 +300,7 @@ turn_ends {plan} {limit} {left} {ahead} {a} {b} {before} {mid} {totals} {place} 
       runs_broken plan limit ahead outcome a b before now going.taken within.broken going.consumed going.ended short
           (broken_by plan lawful ahead going.taken going.done totals place shown before mid now (step plan ahead totals place shown) begun going.so going.did refl (ends.cut cut))
           (λ e. absurd (within.not_read e)),
-      (within.not_read, broken_before_end outcome within.broken),
+      (within.not_read, broken_early outcome within.broken),
     ))
     (λ (whole : is_cut_within outcome ≡ false).
     let (stops, still) = ends.stopped whole in

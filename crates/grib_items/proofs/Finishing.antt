@@ -12,16 +12,15 @@ use Rattle.grib_stream.specs.declared.outcome.Outcome.TheVariants.{Refused, Read
 use Rattle.grib_stream.specs.declared.gathering.Rest.{Rest}
 use Rattle.grib_stream.specs.declared.gathering.Rest.TheVariants.{Open, Full, Ended}
 use Rattle.grib_stream.specs.Stream.{begins}
-use Rattle.grib_stream.specs.Outcomes.{is_broken, is_cut_short}
+use Rattle.grib_stream.specs.Outcomes.{is_broken, is_cut_short, is_whole}
 use Rattle.grib_stream.specs.Reading.{Gathers, Probes, Takes}
 use Rattle.grib_stream.specs.Rest.{Stands}
 use Rattle.grib_stream.specs.Task.{IsLawful}
-use Rattle.grib_stream.proofs.Exits.{cut_broken}
+use Rattle.grib_stream.proofs.ByKind.{cut_broken}
 use Rattle.grib_stream.proofs.Windows.{takes_more, takes_kept}
 use Rattle.grib_items.specs.declared.policy.ItemTotals.{ItemTotals}
 use Rattle.grib_items.specs.Deeds.{Deeds, deeds, no_deeds, then, Outside, Done, DoneFront}
 use Rattle.grib_items.specs.Answer.{after, ends_with, done, totals_by, counts_of}
-use Rattle.grib_items.specs.Laws.{is_whole}
 use Rattle.grib_items.specs.Reading.{Advances, goes_on, advances_left}
 use Rattle.grib_items.specs.Run.{answer_at, answer_of, answer_within, Gives, Runs, IsOver}
 use Rattle.grib_items.specs.Steps.{Plan, Step, Goes, Stops, Waits, step}

@@ -8,10 +8,10 @@ use lib.Seq.{drop-append-le}
 use Rattle.grib_bits.specs.Octets.{num_on, octets}
 use Rattle.grib_base.specs.declared.fault.Fault.{Fault}
 use Rattle.grib_base.specs.declared.fault.Reason.TheVariants.{Truncated, Edition, TotalLength}
-use Rattle.grib_base.specs.Rows.{refusal, first_fault}
+use Rattle.grib_base.specs.Rules.{refusal, first_fault}
 use Rattle.grib_base.specs.declared.limits.TheConstants.{MOST_OCTETS}
 use Rattle.grib2_sections.specs.declared.indicator.Head.{Head}
-use Rattle.grib2_sections.specs.Head.{end_mark, edition, total_length, total_length_1, discipline, head_rows, head_of}
+use Rattle.grib2_sections.specs.Head.{end_mark, edition, total_length, total_length_1, discipline, head_rules, head_of}
 use Rattle.grib_stream.specs.Stream.{begins}
 use Rattle.grib_stream.specs.Outcomes.{is_truncated}
 use Rattle.grib_stream.proofs.Streams.{begins_long}
@@ -24,17 +24,17 @@ stands xs more first last order low within =
     ap (λ ys. num_on 0 (take (last + 1 - first) ys)) (drop-append-le (first - 1) xs more low)
     ∙ ap (num_on 0) (take-append-le (last + 1 - first) (drop (first - 1) xs) more (omega (arith, length-drop (first - 1) xs, within)))
 
--- ---- the rows of Section 0
+-- ---- the rules of Section 0
 
--- the rows behind the first, by what each of them asks
+-- the rules behind the first, by what each of them asks
 abbrev later_by : Bool → Bool → Bool → Bool → Bool → ℕ → ℕ → ℕ → ℕ → Option Fault
 later_by other two short wrong wrong_1 e k total total_1 =
     cond other (Some (refusal 8 Edition e))
     (cond (two && short) (Some (refusal (k + 1) Truncated k))
     (cond (two && wrong) (Some (refusal 9 TotalLength total)) (cond wrong_1 (Some (refusal 5 TotalLength total_1)) None)))
 
-abbrev later_rows : ℕ → ℕ → ℕ → ℕ → Option Fault
-later_rows e k total total_1 =
+abbrev later_rules : ℕ → ℕ → ℕ → ℕ → Option Fault
+later_rules e k total total_1 =
     later_by (not (e == 1) && not (e == 2)) (e == 2) (nat_lt k 16) (nat_lt total 20 || nat_lt MOST_OCTETS total) (e == 1 && nat_lt total_1 12) e k total total_1
 
 -- a fault that is not for the end of the octets, or none
@@ -69,21 +69,21 @@ total_stays xs more long = stands xs more 9 16 (omega arith) (omega arith) (omeg
 total_1_stays : (xs more : List ℕ) → 8 ≤ length xs → total_length_1 (xs ++ more) ≡ total_length_1 xs
 total_1_stays xs more long = stands xs more 5 7 (omega arith) (omega arith) (omega arith)
 
-pub rows_stay : (xs more : List ℕ) → IsFixed (first_fault (head_rows xs)) → (8 ≤ length xs) × (first_fault (head_rows (xs ++ more)) ≡ first_fault (head_rows xs))
-rows_stay xs more fixed =
+pub rules_stay : (xs more : List ℕ) → IsFixed (first_fault (head_rules xs)) → (8 ≤ length xs) × (first_fault (head_rules (xs ++ more)) ≡ first_fault (head_rules xs))
+rules_stay xs more fixed =
     let k : ℕ = length xs in
     let k_now : ℕ = length (xs ++ more) in
     let size : k_now ≡ k + length more = length-append xs more in
-    let (not_few, later_fixed) = not_short (nat_lt k 8) k (later_rows (edition xs) k (total_length xs) (total_length_1 xs)) fixed in
+    let (not_few, later_fixed) = not_short (nat_lt k 8) k (later_rules (edition xs) k (total_length xs) (total_length_1 xs)) fixed in
     let long : 8 ≤ k = ltb-false k 8 not_few in
     let few_now : nat_lt k_now 8 ≡ false = le-ltb k_now 8 (omega arith) in
     let e : edition (xs ++ more) ≡ edition xs = edition_stays xs more long in
     let one : total_length_1 (xs ++ more) ≡ total_length_1 xs = total_1_stays xs more long in
-    let first_now : first_fault (head_rows (xs ++ more)) ≡ later_rows (edition (xs ++ more)) k_now (total_length (xs ++ more)) (total_length_1 (xs ++ more)) =
-    ap (λ b. cond b (Some (refusal (k_now + 1) Truncated k_now)) (later_rows (edition (xs ++ more)) k_now (total_length (xs ++ more)) (total_length_1 (xs ++ more)))) few_now in
-    let first : first_fault (head_rows xs) ≡ later_rows (edition xs) k (total_length xs) (total_length_1 xs) =
-    ap (λ b. cond b (Some (refusal (k + 1) Truncated k)) (later_rows (edition xs) k (total_length xs) (total_length_1 xs))) not_few in
-    let middle : later_rows (edition xs) k_now (total_length (xs ++ more)) (total_length_1 xs) ≡ later_rows (edition xs) k (total_length xs) (total_length_1 xs) =
+    let first_now : first_fault (head_rules (xs ++ more)) ≡ later_rules (edition (xs ++ more)) k_now (total_length (xs ++ more)) (total_length_1 (xs ++ more)) =
+    ap (λ b. cond b (Some (refusal (k_now + 1) Truncated k_now)) (later_rules (edition (xs ++ more)) k_now (total_length (xs ++ more)) (total_length_1 (xs ++ more)))) few_now in
+    let first : first_fault (head_rules xs) ≡ later_rules (edition xs) k (total_length xs) (total_length_1 xs) =
+    ap (λ b. cond b (Some (refusal (k + 1) Truncated k)) (later_rules (edition xs) k (total_length xs) (total_length_1 xs))) not_few in
+    let middle : later_rules (edition xs) k_now (total_length (xs ++ more)) (total_length_1 xs) ≡ later_rules (edition xs) k (total_length xs) (total_length_1 xs) =
     later_same (not (edition xs == 1) && not (edition xs == 2)) (edition xs == 2) (nat_lt k 16) (nat_lt k_now 16) _ _ (edition xs == 1 && nat_lt (total_length_1 xs) 12)
     (edition xs) k k_now (total_length xs) (total_length (xs ++ more)) (total_length_1 xs)
     (λ two there.
@@ -92,8 +92,8 @@ rows_stay xs more fixed =
     (le-ltb k_now 16 (omega arith), (ap (λ n. nat_lt n 20 || nat_lt MOST_OCTETS n) t, t))) later_fixed in (
       long,
       first_now
-          ∙ (ap (λ n. later_rows n k_now (total_length (xs ++ more)) (total_length_1 (xs ++ more))) e
-          ∙ (ap (λ n. later_rows (edition xs) k_now (total_length (xs ++ more)) n) one ∙ (middle ∙ sym first))),
+          ∙ (ap (λ n. later_rules n k_now (total_length (xs ++ more)) (total_length_1 (xs ++ more))) e
+          ∙ (ap (λ n. later_rules (edition xs) k_now (total_length (xs ++ more)) n) one ∙ (middle ∙ sym first))),
     )
 
 -- ---- the stated total length
@@ -115,13 +115,13 @@ total_by : (b : Bool) (xs ys : List ℕ) → total_length_1 ys ≡ total_length_
 total_by true xs ys one other = one
 total_by false xs ys one other = other refl
 
-pub stated_stays : (xs more : List ℕ) → first_fault (head_rows xs) ≡ None
-    → (first_fault (head_rows (xs ++ more)) ≡ None) × ((head_of (xs ++ more)).total ≡ (head_of xs).total)
+pub stated_stays : (xs more : List ℕ) → first_fault (head_rules xs) ≡ None
+    → (first_fault (head_rules (xs ++ more)) ≡ None) × ((head_of (xs ++ more)).total ≡ (head_of xs).total)
 stated_stays xs more none =
-    let (long, same) = rows_stay xs more (none_fixed _ none) in
+    let (long, same) = rules_stay xs more (none_fixed _ none) in
     let not_few : nat_lt (length xs) 8 ≡ false = le-ltb (length xs) 8 long in
-    let later : later_rows (edition xs) (length xs) (total_length xs) (total_length_1 xs) ≡ None =
-    sym (ap (λ b. cond b (Some (refusal (length xs + 1) Truncated (length xs))) (later_rows (edition xs) (length xs) (total_length xs) (total_length_1 xs))) not_few) ∙ none in
+    let later : later_rules (edition xs) (length xs) (total_length xs) (total_length_1 xs) ≡ None =
+    sym (ap (λ b. cond b (Some (refusal (length xs + 1) Truncated (length xs))) (later_rules (edition xs) (length xs) (total_length xs) (total_length_1 xs))) not_few) ∙ none in
     let total : (head_of (xs ++ more)).total ≡ (head_of xs).total =
     ap (λ n. (cond {A = Head} (n == 1) (record { edition = 1; discipline = 0; total = total_length_1 (xs ++ more) })
     (record { edition = 2; discipline = discipline (xs ++ more); total = total_length (xs ++ more) })).total) (edition_stays xs more long)
@@ -130,8 +130,8 @@ stated_stays xs more none =
     (same ∙ none, total)
 
 -- where a length is stated, eight octets are there
-pub stated_long : (xs : List ℕ) → first_fault (head_rows xs) ≡ None → 8 ≤ length xs
-stated_long xs none = (rows_stay xs [] (none_fixed _ none)).0
+pub stated_long : (xs : List ℕ) → first_fault (head_rules xs) ≡ None → 8 ≤ length xs
+stated_long xs none = (rules_stay xs [] (none_fixed _ none)).0
 
 -- ---- how far a refusal is passed
 
@@ -158,13 +158,13 @@ passed_size_by more n xs (Some fault) long is =
 
 -- a refusal is passed by four octets at least, and by no more than there are
 pub passed_size : (more : Bool) (n : ℕ) (xs : List ℕ) → begins xs ≡ true → passed more xs ≡ Some n → (4 ≤ n) × (n ≤ length xs)
-passed_size more n xs begun is = passed_size_by more n xs (first_fault (head_rows xs)) (begins_long xs begun) is
+passed_size more n xs begun is = passed_size_by more n xs (first_fault (head_rules xs)) (begins_long xs begun) is
 
 pub and_off : (b c : Bool) → c ≡ false → (b && c) ≡ false
 and_off true c is = is
 and_off false c is = refl
 
-passed_stays_by : (more : Bool) (n : ℕ) (xs later : List ℕ) (f : Option Fault) → first_fault (head_rows xs) ≡ f → passed_by true xs f ≡ Some n
+passed_stays_by : (more : Bool) (n : ℕ) (xs later : List ℕ) (f : Option Fault) → first_fault (head_rules xs) ≡ f → passed_by true xs f ≡ Some n
     → passed more (xs ++ later) ≡ Some n
 passed_stays_by more n xs later None none is =
     let total : ℕ = (head_of xs).total in
@@ -180,12 +180,12 @@ passed_stays_by more n xs later None none is =
     ∙ (ap (λ b. cond b None (Some (cond (is_ended total (xs ++ later)) total 4))) off ∙ (ap (λ b. Some (cond b total 4)) ends ∙ ap Some same)))
 passed_stays_by more n xs later (Some fault) some is =
     let (closed, same) = some_of (is_truncated fault.reason) 4 n is in
-    let (long, now) = rows_stay xs later (subst IsFixed (sym some) closed) in
+    let (long, now) = rules_stay xs later (subst IsFixed (sym some) closed) in
     ap (passed_by more (xs ++ later)) (now ∙ some) ∙ (ap (λ b. cond b None (Some 4)) (and_off more _ closed) ∙ ap Some same)
 
 -- how far a refusal is passed stays, once it is known, whatever follows
 pub passed_stays : (more : Bool) (n : ℕ) (xs later : List ℕ) → passed true xs ≡ Some n → passed more (xs ++ later) ≡ Some n
-passed_stays more n xs later is = passed_stays_by more n xs later (first_fault (head_rows xs)) refl is
+passed_stays more n xs later is = passed_stays_by more n xs later (first_fault (head_rules xs)) refl is
 
 -- where no more octets follow, it is known
 passed_known_by : (xs : List ℕ) (f : Option Fault) → passed_by false xs f ≢ None
@@ -193,16 +193,16 @@ passed_known_by xs None is = cc
 passed_known_by xs (Some fault) is = cc
 
 pub passed_known : (xs : List ℕ) → passed false xs ≢ None
-passed_known xs = passed_known_by xs (first_fault (head_rows xs))
+passed_known xs = passed_known_by xs (first_fault (head_rules xs))
 
 -- and it is not known where the stated end is not there
-pub passed_later : (xs : List ℕ) → first_fault (head_rows xs) ≡ None → length xs < (head_of xs).total → passed true xs ≡ None
+pub passed_later : (xs : List ℕ) → first_fault (head_rules xs) ≡ None → length xs < (head_of xs).total → passed true xs ≡ None
 passed_later xs none fewer =
     ap (passed_by true xs) none
     ∙ ap (λ b. cond b None (Some (cond (is_ended (head_of xs).total xs) (head_of xs).total 4))) (lt-ltb (length xs) (head_of xs).total fewer)
 
 -- where the stated end is there
-pub passed_here : (more : Bool) (xs : List ℕ) (total : ℕ) (b : Bool) → first_fault (head_rows xs) ≡ None → (head_of xs).total ≡ total → total ≤ length xs
+pub passed_here : (more : Bool) (xs : List ℕ) (total : ℕ) (b : Bool) → first_fault (head_rules xs) ≡ None → (head_of xs).total ≡ total → total ≤ length xs
     → is_ended total xs ≡ b → passed more xs ≡ Some (cond b total 4)
 passed_here more xs total b none stated long is =
     ap (passed_by more xs) none
@@ -214,7 +214,7 @@ not_ended : (total : ℕ) (xs : List ℕ) → length xs < total → is_ended tot
 not_ended total xs fewer = ⊎_elim (λ is. let there = ended_there total xs is in absurd (omega (arith, there.1, fewer))) (λ none. none) (cases_Bool (is_ended total xs))
 
 -- where the stated end does not come
-pub passed_cut : (more : Bool) (xs : List ℕ) (total : ℕ) → first_fault (head_rows xs) ≡ None → (head_of xs).total ≡ total → length xs < total → more ≡ false
+pub passed_cut : (more : Bool) (xs : List ℕ) (total : ℕ) → first_fault (head_rules xs) ≡ None → (head_of xs).total ≡ total → length xs < total → more ≡ false
     → passed more xs ≡ Some 4
 passed_cut more xs total none stated fewer last =
     ap (λ m. passed m xs) last

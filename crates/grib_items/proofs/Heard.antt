@@ -11,7 +11,7 @@ use Rattle.grib_stream.specs.declared.gathering.Rest.{Rest}
 use Rattle.grib_stream.specs.declared.gathering.Rest.TheVariants.{Open, Full, Ended}
 use Rattle.grib_stream.specs.Stream.{begins, Message}
 use Rattle.grib_stream.specs.Acts.{Act, World, Did}
-use Rattle.grib_stream.specs.Outcomes.{is_broken, is_cut_within}
+use Rattle.grib_stream.specs.Outcomes.{is_broken, is_cut_within, is_whole}
 use Rattle.grib_stream.specs.Task.{Task, IsLawful, next_of}
 use Rattle.grib_stream.specs.Reading.{Gathers}
 use Rattle.grib_stream.specs.Rest.{Stands}
@@ -25,7 +25,7 @@ use Rattle.grib_stream.proofs.Nexts.{message_next, message_stays_next, stops_nev
 use Rattle.grib_items.specs.declared.policy.ItemTotals.{ItemTotals}
 use Rattle.grib_items.specs.Deeds.{Outside, outside, deeds, Done}
 use Rattle.grib_items.specs.Answer.{after, one_answered, counts_of, totals_by, place_by}
-use Rattle.grib_items.specs.Laws.{nothing, is_whole}
+use Rattle.grib_items.specs.Laws.{nothing}
 use Rattle.grib_items.specs.Run.{Runs}
 use Rattle.grib_items.specs.Steps.{Plan, Goes, Waits, step, Fits}
 use Rattle.grib_items.specs.Reading.{goes_on}

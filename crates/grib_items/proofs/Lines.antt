@@ -1,7 +1,7 @@
 -- As many lines as refusals and messages that cannot be changed are counted.
 use Rattle.std.proofs.Common.{◌≡◌, ℕ, suc, ◌+◌, Bool, true, false, List, [], ◌∷◌, length, take, nat_lt, Option, None, Some, Ok, Err, subst, arith}
 use Rattle.std.specs.declared.result.Result.{Result}
-use Rattle.grib_base.specs.Rows.{choose}
+use Rattle.grib_base.specs.Rules.{choose}
 use Rattle.grib_reasons.specs.declared.cause.Kept.{Kept}
 use Rattle.grib_stream.specs.declared.outcome.Outcome.{Outcome}
 use Rattle.grib_stream.specs.declared.place.Place.{Place}

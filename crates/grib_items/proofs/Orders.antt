@@ -1,6 +1,6 @@
 -- Where the items of an input stand.
 use Rattle.std.proofs.Common.{◌≡◌, ℕ, zero, suc, ◌+◌, ◌-◌, ◌≤◌, Bool, true, false, cond, ◌&&◌, List, [], ◌∷◌, ◌++◌, length, take, Option, None, Some, refl, ap, subst, arith, length-take-le}
-use Rattle.grib_base.specs.Rows.{choose}
+use Rattle.grib_base.specs.Rules.{choose}
 use Rattle.grib_base.specs.declared.fault.Fault.{Fault}
 use Rattle.grib_stream.specs.Stream as streams
 use Rattle.grib_stream.specs.Stream.{begins, Judgement, Message, Faulty, message_after, Stream, on_judgement, stream_from}

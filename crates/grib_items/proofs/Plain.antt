@@ -1,6 +1,6 @@
 -- A run that passes nothing is that of a stream.
 use Rattle.std.proofs.Common.{◌≡◌, ℕ, zero, suc, ◌+◌, ◌-◌, Bool, true, false, cond, ◌&&◌, List, [], ◌∷◌, ◌++◌, length, take, nat_lt, None, refl, sym, ap, subst}
-use Rattle.grib_base.specs.Rows.{choose}
+use Rattle.grib_base.specs.Rules.{choose}
 use Rattle.grib_base.specs.declared.fault.Fault.{Fault}
 use Rattle.grib_stream.specs.declared.outcome.Outcome.{Outcome}
 use Rattle.grib_stream.specs.declared.outcome.Outcome.TheVariants.{InputTooLong, Refused as Refusal}
@@ -12,7 +12,8 @@ use Rattle.grib_stream.specs.Acts.{Act}
 use Rattle.grib_stream.specs.Answer.{Answer, at_limit, silent}
 use Rattle.grib_stream.specs.Task.{Task, IsLawful, Given, Gives, Ends}
 use Rattle.grib_stream.specs.Texts.{Texts}
-use Rattle.grib_stream.proofs.Exits.{of_message, closed_at_limit}
+use Rattle.grib_stream.proofs.Exits.{closed_at_limit}
+use Rattle.grib_stream.proofs.ByKind.{of_message}
 use Rattle.grib_items.specs.Next.{Unknown, Refuses, next_judged}
 use Rattle.grib_items.specs.Items.{Items, Accepted, End, Refusing, Open, items_of, followed_by, end_by, on_next, items_from}
 use Rattle.grib_items.specs.Deeds.{deeds}

@@ -3,19 +3,18 @@ use Rattle.std.proofs.Common.{◌≡◌, ◌≢◌, ℕ, Bool, true, false, cond
 use Rattle.grib_base.specs.declared.fault.Fault.{Fault}
 use Rattle.grib_reasons.specs.declared.cause.Kept.{Kept as KeptMessage}
 use Rattle.grib_stream.specs.declared.outcome.Outcome.{Outcome}
-use Rattle.grib_stream.specs.declared.outcome.Outcome.TheVariants.{Done as Finished, Passed, Differs, Usage, Refused, Kept, TableRefused, SurfacesRefused, FileRefused, ReadFault, WriteFault, ShelfFault, Memory, InputTooLong}
+use Rattle.grib_stream.specs.declared.outcome.Outcome.TheVariants.{Refused, ReadFault, InputTooLong}
 use Rattle.grib_stream.specs.declared.place.Place.{Place}
 use Rattle.grib_stream.specs.Stream.{Judgement, Message, Faulty}
-use Rattle.grib_stream.specs.Outcomes.{is_broken, is_truncated, is_of_message}
+use Rattle.grib_stream.specs.Outcomes.{is_truncated, is_of_message, is_whole}
 use Rattle.grib_stream.specs.Answer.{refusal_after}
 use Rattle.grib_stream.specs.Task.{Task, IsLawful, Given, Gives, Ends}
-use Rattle.grib_stream.proofs.Exits.{of_message}
+use Rattle.grib_stream.proofs.ByKind.{of_message}
 use Rattle.grib_stream.specs.Texts.{Texts}
 use Rattle.grib_items.specs.declared.policy.Instead.{Instead}
 use Rattle.grib_items.specs.declared.policy.ItemTotals.{ItemTotals}
 use Rattle.grib_items.specs.Next.{Unknown, Refuses, next_judged, next_passed, passed}
 use Rattle.grib_items.specs.Answer.{Counts, on_given, on_outcome, kept_of, counts_of, place_by, passes}
-use Rattle.grib_items.specs.Laws.{is_whole}
 use Rattle.grib_items.specs.Steps.{Plan, Stops, step, step_next, step_comes}
 
 -- an outcome before the end of an input that is not too long
@@ -24,41 +23,8 @@ pub record AtItem (outcome : Outcome) : Type 0 where
   pub not_read : outcome ≢ ReadFault
   pub before_end : is_whole outcome ≡ false
 
-message_before_end : (outcome : Outcome) → is_of_message outcome ≡ true → is_whole outcome ≡ false
-message_before_end Finished is = sym is
-message_before_end (Passed refused kept) is = sym is
-message_before_end Differs is = sym is
-message_before_end (Usage word) is = refl
-message_before_end (Refused refusal) is = refl
-message_before_end (Kept kept) is = refl
-message_before_end (TableRefused refusal) is = refl
-message_before_end (SurfacesRefused refusal) is = refl
-message_before_end (FileRefused refusal) is = refl
-message_before_end ReadFault is = refl
-message_before_end WriteFault is = refl
-message_before_end ShelfFault is = refl
-message_before_end Memory is = refl
-message_before_end InputTooLong is = refl
-
--- nor is one with which a device or a lack of memory ends the run
-pub broken_before_end : (outcome : Outcome) → is_broken outcome ≡ true → is_whole outcome ≡ false
-broken_before_end Finished is = sym is
-broken_before_end (Passed refused kept) is = sym is
-broken_before_end Differs is = sym is
-broken_before_end (Usage word) is = refl
-broken_before_end (Refused refusal) is = refl
-broken_before_end (Kept kept) is = refl
-broken_before_end (TableRefused refusal) is = refl
-broken_before_end (SurfacesRefused refusal) is = refl
-broken_before_end (FileRefused refusal) is = refl
-broken_before_end ReadFault is = refl
-broken_before_end WriteFault is = refl
-broken_before_end ShelfFault is = refl
-broken_before_end Memory is = refl
-broken_before_end InputTooLong is = refl
-
 at_message : (outcome : Outcome) → is_of_message outcome ≡ true → AtItem outcome
-at_message outcome is = let of = of_message outcome is in record { not_long = of.not_long; not_read = of.not_read; before_end = message_before_end outcome is }
+at_message outcome is = let of = of_message outcome is in record { not_long = of.not_long; not_read = of.not_read; before_end = of.before_end }
 
 outcome_ends : (texts : Texts) (counts : Counts) (at : Place) (fields : ℕ) (message : List ℕ) (outcome other : Outcome) (instead : Option Instead) (kept : Option KeptMessage) (n skipped : ℕ)
     → is_of_message outcome ≡ true → step_comes (on_outcome texts counts at fields message outcome instead kept) n skipped ≡ Stops other → AtItem other

@@ -1,7 +1,7 @@
 -- What stands in an input, one behind the other: messages, and octets that are refused and passed.
 use Rattle.std.specs.Prelude.{ℕ, zero, suc, ◌+◌, ◌-◌, Bool, cond, List, [], ◌∷◌, take}
 use Rattle.grib_base.specs.declared.fault.Fault.{Fault}
-use Rattle.grib_base.specs.Rows.{choose}
+use Rattle.grib_base.specs.Rules.{choose}
 use Rattle.grib_stream.specs.Stream.{begins, Judgement, Found, message_after}
 use Rattle.grib_items.specs.Next.{Next, Accepts, Passes, Refuses, Unknown, next}
 

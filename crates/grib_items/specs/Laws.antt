@@ -2,9 +2,9 @@
 use Rattle.std.specs.Prelude.{◌≡◌, ℕ, ◌+◌, ◌≤◌, ◌==◌, cond, ◌++◌, Bool, true, false, List, [], ◌∷◌, length, take, drop, Some, None, Ok, Err}
 use Rattle.std.specs.declared.result.Result.{Result}
 use Rattle.grib_stream.specs.declared.outcome.Outcome.{Outcome}
-use Rattle.grib_stream.specs.declared.outcome.Outcome.TheVariants.{Done, Passed, Differs, Usage, Refused as Refusal, Kept, TableRefused, SurfacesRefused, FileRefused, ReadFault, WriteFault, ShelfFault, Memory, InputTooLong}
+use Rattle.grib_stream.specs.declared.outcome.Outcome.TheVariants.{Done, Refused as Refusal, Kept}
 use Rattle.grib_stream.specs.declared.place.Place.{Place}
-use Rattle.grib_base.specs.Rows.{refusal}
+use Rattle.grib_base.specs.Rules.{refusal}
 use Rattle.grib_base.specs.declared.fault.Reason.TheVariants.{Edition}
 use Rattle.grib_stream.specs.Stream.{begins, Found, Judgement, Message, Faulty}
 use Rattle.grib_stream.specs.Answer.{Answer}
@@ -26,23 +26,6 @@ nothing = record { refused = None; kept = None }
 abbrev pub outcome_of : Result ItemTotals Outcome → Outcome
 outcome_of (Ok totals) = Done
 outcome_of (Err outcome) = outcome
-
--- whether a run ends with it at the end of its input, where all was done
-abbrev pub is_whole : Outcome → Bool
-is_whole Done = true
-is_whole (Passed refused kept) = true
-is_whole Differs = true
-is_whole (Usage word) = false
-is_whole (Refusal refusal) = false
-is_whole (Kept kept) = false
-is_whole (TableRefused refusal) = false
-is_whole (SurfacesRefused refusal) = false
-is_whole (FileRefused refusal) = false
-is_whole ReadFault = false
-is_whole WriteFault = false
-is_whole ShelfFault = false
-is_whole Memory = false
-is_whole InputTooLong = false
 
 abbrev pub is_refusal : Outcome → Bool
 is_refusal (Refusal refusal) = true

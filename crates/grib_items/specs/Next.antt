@@ -3,8 +3,8 @@ use Rattle.std.specs.Prelude.{ℕ, ◌-◌, Bool, cond, ◌&&◌, nat_lt, List, 
 use Rattle.std.specs.Str.{bytes_eq}
 use Rattle.std.specs.declared.option.Option.{Option}
 use Rattle.grib_base.specs.declared.fault.Fault.{Fault}
-use Rattle.grib_base.specs.Rows.{first_fault}
-use Rattle.grib2_sections.specs.Head.{end_mark, head_rows, head_of}
+use Rattle.grib_base.specs.Rules.{first_fault}
+use Rattle.grib2_sections.specs.Head.{end_mark, head_rules, head_of}
 use Rattle.grib_stream.specs.Stream.{Judgement, Message, Faulty}
 use Rattle.grib_stream.specs.Outcomes.{is_truncated}
 
@@ -12,7 +12,7 @@ use Rattle.grib_stream.specs.Outcomes.{is_truncated}
 abbrev pub is_ended : ℕ → List ℕ → Bool
 is_ended total octets = bytes_eq end_mark (drop (total - 4) (take total octets))
 
--- By the first row of Section 0 that fails: where none does, a total length is stated, and `7777` ends it or not.
+-- By the first rule of Section 0 that fails: where none does, a total length is stated, and `7777` ends it or not.
 -- Where more octets may follow, they may give what is missing.
 abbrev pub passed_by : Bool → List ℕ → Option Fault → Option ℕ
 passed_by more octets None =
@@ -23,7 +23,7 @@ passed_by more octets (Some fault) = cond (more && is_truncated fault.reason) No
 -- How many octets a refusal is passed by: those of the stated total length where `7777` ends it there, and else the
 -- four of its `GRIB`. Nothing where more octets may follow, and their stated end is not there yet.
 abbrev pub passed : Bool → List ℕ → Option ℕ
-passed more octets = passed_by more octets (first_fault (head_rows octets))
+passed more octets = passed_by more octets (first_fault (head_rules octets))
 
 -- the octets from a `GRIB` on begin with a message of this length; they are refused, and the search goes on behind
 -- this many of them; they are refused, and refusals are not passed; or more octets have to come before that is known

@@ -6,8 +6,9 @@ ghost use Rattle.grib_stream.specs.Acts.{world};
 ghost use Rattle.grib_stream.specs.Faults.{faults};
 ghost use Rattle.grib_stream.specs.Soon.{RefusesSoon};
 ghost use Rattle.grib_stream.specs.declared.outcome.Outcome.TheVariants.{ShelfFault};
+ghost use Rattle.grib_stream.specs.Outcomes.{is_whole};
 ghost use Rattle.grib_items.specs.Deeds.{outside};
-ghost use Rattle.grib_items.specs.Laws.{nothing, outcome_of, is_whole};
+ghost use Rattle.grib_items.specs.Laws.{nothing, outcome_of};
 ghost use Rattle.grib_items.specs.Run.{Runs, CountsOne};
 ghost use Rattle.grib_items.specs.Steps.{plan_of};
 

@@ -1,7 +1,7 @@
 //! Laws over the definitions.
 
 ghost use Rattle.std.specs.Prelude.{◌≡◌, ◌≢◌, ℕ, Bool, true, false, List, [], ◌∷◌, ◌++◌, length, take, None, All};
-ghost use Rattle.grib_base.specs.Rows.{refusal};
+ghost use Rattle.grib_base.specs.Rules.{refusal};
 ghost use Rattle.grib_base.specs.declared.fault.Reason.TheVariants.{Edition};
 ghost use Rattle.grib_stream.specs.Acts.{written};
 ghost use Rattle.grib_stream.specs.Answer as plain;

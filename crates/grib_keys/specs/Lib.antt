@@ -1,3 +1,4 @@
 pub mod Keys
+pub mod Keys1
 pub mod Words
 pub mod Wanted

@@ -1,9 +1,8 @@
 //! The keys of a field: their names, and which of them can be set.
 
 ghost use Rattle.std.specs.Prelude.{◌≡◌, Some};
-ghost use Rattle.grib_keys.specs.declared.table.Layout.{Layout};
 ghost use Rattle.grib_keys.specs.declared.table.Place.TheVariants.{At, Stated, FirstPoint, Instant, Ensemble, Interval, FirstRange};
-ghost use Rattle.grib_keys.specs.Keys.{row_of, octets_by, name_of, keys, can_set, key_named};
+ghost use Rattle.grib_keys.specs.Keys.{row_of, name_of, keys, can_set, key_named};
 
 use crate::table::{Kind, Octets, Place, Row};
 use std::fmt;
@@ -129,8 +128,7 @@ impl Key {
     pub fn row(&self) -> Row
         ensures name { result.name.now ≡ (row_of self.now).name }
         ensures section { result.section ≡ (row_of self.now).section }
-        ensures place { (layout : Layout)
-            → octets_by result.place layout ≡ (row_of self.now).place layout }
+        ensures place { result.place ≡ (row_of self.now).place }
         ensures kind { result.kind ≡ (row_of self.now).kind }
     {
         match self {

@@ -4,7 +4,7 @@ ghost use Rattle.std.specs.Prelude.{◌≡◌, ◌+◌, ◌-◌, ◌≤◌, Some
 ghost use Rattle.grib_keys.specs.Keys as keys;
 ghost use Rattle.grib_keys.specs.Keys.{octets_by};
 
-use grib2_products::instant_shift;
+use grib2_sections::instant_shift;
 
 /// A row of the table: a key's name, its section, its place there, and how its number is read and written.
 #[derive(Clone, Copy, Debug)]
@@ -173,7 +173,7 @@ fn instant_place(first: u8, last: u8, layout: Layout) -> Option<Octets>
 
 /// The octets of a number of an ensemble.
 fn ensemble_place(octets: Octets, layout: Layout) -> Option<Octets>
-    ensures { result ≡ keys.ensemble_place octets.first octets.last layout }
+    ensures { result ≡ keys.ensemble_place octets layout }
 {
     match layout.template {
         1 | 11 => Some(octets),

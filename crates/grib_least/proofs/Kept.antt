@@ -5,11 +5,12 @@ use Rattle.std.proofs.lemmas.Bool.{cases_eq, ltb-true}
 use Rattle.std.proofs.lemmas.List.FromFn.{length-map-range_with_len, get_or-map-range_with_len}
 use Rattle.std.proofs.lemmas.Option.{slice_get_within, get_or_from_slice_get, slice_get-get_or}
 use Rattle.grib_bits.specs.Octets.{octets}
-use Rattle.grib_base.specs.Rows.{choose}
+use Rattle.grib_bits.proofs.Logic.{right_true}
+use Rattle.grib_base.specs.Rules.{choose}
 use Rattle.grib_base.specs.declared.profile.Profile.{Profile}
 use Rattle.grib2_grids.specs.Grid.{grid_points}
 use Rattle.grib2_sections.specs.Frame.{Placed}
-use Rattle.grib_bitmap.specs.Mask.{bitmap_indicator, bitmap_rows, mask_of}
+use Rattle.grib_bitmap.specs.Mask.{bitmap_indicator, bitmap_rules, mask_of}
 use Rattle.grib_packing.specs.declared.column.Column.{Column}
 use Rattle.grib_packing.specs.Entries.{column_from}
 use Rattle.grib_packing.specs.Misfits.{Target, ToSimple, ToComplex, ToSpatial, ToCoded, first_misfit}
@@ -22,7 +23,7 @@ use Rattle.grib2_message.specs.View.{is_numbered, octets_in_force, earlier_bitma
 use Rattle.grib2_message.specs.Fields.{field_count, field_sections, part_octets, field_bitmap, field_mask, column_of}
 use Rattle.grib2_message.specs.Message.{IsMessageUnder, IsReadable, FieldPassesUnder}
 use Rattle.grib2_message.specs.Assembled.{assembled, PartsPassUnder, MayBeAssembledUnder}
-use Rattle.grib2_message.proofs.Bitmaps.{rows_alone}
+use Rattle.grib2_message.proofs.Bitmaps.{rules_alone}
 use Rattle.grib2_message.proofs.Latest.{own_alone, own_repeated}
 use Rattle.grib2_message.proofs.Parted.{message_most}
 use Rattle.grib2_message.proofs.Passed.{passes_from_none}
@@ -64,15 +65,11 @@ choose_own : (b : Bool) (here there : List Placed) → (b ≡ true → bitmap_in
 choose_own true here there own behind = own refl
 choose_own false here there own behind = behind
 
-both_true : (a b : Bool) → (a && b) ≡ true → b ≡ true
-both_true true b e = e
-both_true false b e = absurd (cc)
-
 earlier_own : (before : List Placed) → bitmap_indicator (first_octets (earlier_bitmap before)) ≡ 0
 earlier_own [] = refl
 earlier_own (s ∷ before) =
     choose_own (is_numbered 6 s && (bitmap_indicator s.octets == 0)) (s ∷ before) (earlier_bitmap before)
-    (λ e. eqb-true (bitmap_indicator s.octets) 0 (both_true (is_numbered 6 s) (bitmap_indicator s.octets == 0) e)) (earlier_own before)
+    (λ e. eqb-true (bitmap_indicator s.octets) 0 (right_true (is_numbered 6 s) (bitmap_indicator s.octets == 0) e)) (earlier_own before)
 
 -- an indicator that passes and repeats nothing
 passing_indicator : (n : ℕ) → n < 256 → n ≢ 254 → (nat_lt 0 n && nat_lt n 254) ≡ false → (n ≡ 0) ⊎ (n ≡ 255)
@@ -97,9 +94,9 @@ module _ (profile : Profile) (message : List ℕ) (i : ℕ) (accepted : IsMessag
             let s = octets_in_force 6 before in
             let is : bitmap_indicator (own_bitmap before) ≡ bitmap_indicator s = ap bitmap_indicator (own_alone before other) in
             let p = parts profile message i accepted low high in
-            let rows = passes_from_none (bitmap_rows (own_bitmap before) (grid_points (part_octets message i 3)) (value_count (part_octets message i 5)) None) p.bitmap in
+            let rules = passes_from_none (bitmap_rules (own_bitmap before) (grid_points (part_octets message i 3)) (value_count (part_octets message i 5)) None) p.bitmap in
             let few : octets s 6 6 < 2 ^ 8 = octets_few s 6 6 8 (part_of_octets message i 6 each) (omega arith) in
-            passing_indicator (bitmap_indicator (own_bitmap before)) (omega (arith, few, is)) p.alone rows.1.0
+            passing_indicator (bitmap_indicator (own_bitmap before)) (omega (arith, few, is)) p.alone rules.1.0
       ]
 
 -- ---- the forms of a field
@@ -136,7 +133,7 @@ module _ (written : IsWritten) (unpack : Unpacks) (profile : Profile)
           itself_7 = p.itself_7;
           packing = (passes message i accepted low high).packing;
           alone = own_indicator profile message i accepted each low high;
-          bitmap = λ earlier. rows_alone s6 points (value_count (part_octets message i 5)) p.alone earlier None ∙ p.bitmap;
+          bitmap = λ earlier. rules_alone s6 points (value_count (part_octets message i 5)) p.alone earlier None ∙ p.bitmap;
           values = p.values;
         };
         column = ap (λ (mask : List Bool). column_from (part_octets message i 5) mask (part_octets message i 7)) alone.mask;

@@ -1,7 +1,7 @@
 -- Lemmas on the first of the smallest forms.
 use Rattle.std.proofs.Common.{◌≡◌, ℕ, ◌+◌, ◌≤◌, ◌<◌, ◌⊎◌, Bool, true, false, cond, nat_lt, min, Option, Some, None, unwrap_or, List, [], ◌∷◌, All, inl, inr, refl, sym, ap, ◌∙◌, arith, subst, lt-ltb, le-ltb, ltb-false}
 use Rattle.std.specs.List.{cons_option, filter_map}
-use Rattle.std.proofs.lemmas.Bool.{ltb-true}
+use Rattle.std.proofs.lemmas.Bool.{ltb-true, cases_lt}
 use Rattle.std.proofs.lemmas.List.Elements.{All-nil, All-cons}
 use Rattle.grib_base.specs.declared.profile.Profile.{Profile}
 use Rattle.grib_base.specs.declared.profile.Profile.TheVariants.{Stated, Open}
@@ -103,12 +103,6 @@ smallest_stays best (form ∷ later) each =
 
 -- ---- from the last form to the first
 
-which : (m n : ℕ) → (m < n) ⊎ (n ≤ m)
-which m n = go (nat_lt m n) refl where
-  go : (b : Bool) → nat_lt m n ≡ b → (m < n) ⊎ (n ≤ m)
-  go true e = inl (ltb-true m n e)
-  go false e = inr (ltb-false m n e)
-
 -- a smaller one takes its place
 smaller_taken : (best form : Packed) → size_of form < size_of best → smaller best form ≡ form
 smaller_taken best form low = ap (λ (b : Bool). cond b form best) (lt-ltb (size_of form) (size_of best) low)
@@ -117,7 +111,7 @@ smaller_taken best form low = ap (λ (b : Bool). cond b form best) (lt-ltb (size
 more_forms : (own form first : Packed) (later : List Packed) → size_of form ≤ size_of own
     → ((other : Packed) → size_of form ≤ size_of other → smallest form later ≡ smaller form (smallest other later))
     → smallest (smaller form first) later ≡ smaller form (smallest (smaller own first) later)
-more_forms own form first later low rest = elim (which (size_of first) (size_of form)) [
+more_forms own form first later low rest = elim (cases_lt (size_of first) (size_of form)) [
   | inl less ↦
       let least = (smallest_least first later).0 in
       ap (λ (x : Packed). smallest x later) (smaller_taken form first less)
@@ -125,7 +119,7 @@ more_forms own form first later low rest = elim (which (size_of first) (size_of 
       ∙ smaller_taken form (smallest first later) (omega (arith, less, least)))
   | inr more ↦
       let here : smallest (smaller form first) later ≡ smallest form later = ap (λ (x : Packed). smallest x later) (smaller_stays form first more) in
-      elim (which (size_of first) (size_of own)) [
+      elim (cases_lt (size_of first) (size_of own)) [
         | inl less ↦ here ∙ rest first more ∙ sym (ap (λ (x : Packed). smaller form (smallest x later)) (smaller_taken own first less))
         | inr kept ↦ here ∙ rest own low ∙ sym (ap (λ (x : Packed). smaller form (smallest x later)) (smaller_stays own first kept))
       ]
@@ -137,7 +131,7 @@ in_place own form [] low = sym (smaller_stays form own low)
 in_place own form (first ∷ later) low = more_forms own form first later low (λ other below. in_place other form later below)
 
 before_later : (own form : Packed) (later : List Packed) → smallest own (form ∷ later) ≡ or_earlier (size_of own) form (smallest own later)
-before_later own form later = elim (which (size_of form) (size_of own)) [
+before_later own form later = elim (cases_lt (size_of form) (size_of own)) [
   | inl less ↦
       ap (λ (x : Packed). smallest x later) (smaller_taken own form less)
       ∙ in_place own form later (omega (arith, less))
@@ -164,7 +158,7 @@ smallest_from_last f own (target ∷ later) =
 
 -- a form that has too many octets is left out
 pub left_out : (limit : ℕ) (form best : Packed) → min limit (size_of best + 1) ≤ size_of form → or_earlier limit form best ≡ best
-left_out limit form best most = elim (which (size_of form) limit) [
+left_out limit form best most = elim (cases_lt (size_of form) limit) [
   | inl less ↦
       ap (λ (b : Bool). cond b (smaller form best) best) (lt-ltb (size_of form) limit less)
       ∙ smaller_taken form best (omega (arith, most, less))

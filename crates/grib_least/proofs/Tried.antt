@@ -17,8 +17,8 @@ use Rattle.grib2_message.specs.declared.fault.AssembleFault.TheVariants.{TooLong
 use Rattle.grib2_message.specs.Fields.{field_count, column_of}
 use Rattle.grib2_message.specs.Message.{IsMessageUnder}
 use Rattle.grib_select.proofs.Alone.{part_short}
-use Rattle.grib_repack.specs.declared.target.RepackTarget.{RepackTarget}
-use Rattle.grib_repack.specs.Faults.{target_of}
+use Rattle.grib_packing.specs.declared.target.RepackTarget.{RepackTarget}
+use Rattle.grib_packing.specs.Targets.{target_of}
 use Rattle.grib_repack.specs.Repacked.{kind_of}
 use Rattle.grib_repack.proofs.Kept.{IsWritten}
 use Rattle.grib_repack.proofs.Packing.{IsOnly}

@@ -3,8 +3,8 @@ use Rattle.std.specs.Prelude.{ℕ, cond, Option, Some, None, List, [], ◌∷◌
 use Rattle.grib_base.specs.declared.profile.Profile.{Profile}
 use Rattle.grib_base.specs.declared.profile.Profile.TheVariants.{Stated, Open}
 use Rattle.grib_packing.specs.declared.written.Packed.{Packed}
-use Rattle.grib_repack.specs.declared.target.RepackTarget.{RepackTarget}
-use Rattle.grib_repack.specs.declared.target.RepackTarget.TheVariants.{Simple, Complex, Spatial, Coded}
+use Rattle.grib_packing.specs.declared.target.RepackTarget.{RepackTarget}
+use Rattle.grib_packing.specs.declared.target.RepackTarget.TheVariants.{Simple, Complex, Spatial, Coded}
 use Rattle.grib_least.specs.Least.{size_of, smaller}
 
 -- the packings that a profile has, from the last to the first

@@ -5,7 +5,7 @@ ghost use Rattle.grib_packing.specs.Written.{IsTarget, MayBePacked};
 ghost use Rattle.grib2_message.specs.Assembled.{assembled, IsShort};
 ghost use Rattle.grib2_message.specs.Fields.{field_count, column_of};
 ghost use Rattle.grib2_message.specs.Message.{IsAnyMessage};
-ghost use Rattle.grib_repack.specs.Faults.{target_of};
+ghost use Rattle.grib_packing.specs.Targets.{target_of};
 ghost use Rattle.grib_repack.specs.Repacked.{kind_of};
 ghost use Rattle.grib_least.specs.Earlier as earlier;
 ghost use Rattle.grib_least.specs.Earlier.{or_form};

@@ -6,7 +6,7 @@ use Rattle.grib_params.specs.Surfaces.{SurfaceEntries}
 use Rattle.grib_params.specs.Table.{Entries}
 use Rattle.grib_params.specs.declared.row.Target.{Target}
 use Rattle.grib1_sections.specs.Keys.{key_in}
-use Rattle.grib1_sections.specs.declared.key.Key1.TheVariants.{P1, P2, TimeRange}
+use Rattle.grib_keys.specs.declared.key1.Key1.TheVariants.{P1, P2, TimeRange}
 use Rattle.grib_reasons.specs.declared.loss.Loss.TheVariants as losses
 use Rattle.grib_migrate.specs.declared.level.Surfaces.{Surfaces}
 use Rattle.grib_migrate.specs.declared.time.Unit.{Unit as UnitOfTime}

@@ -1,6 +1,6 @@
 -- A moment of the calendar some seconds later.
 use Rattle.std.proofs.Common.{◌≡◌, ℕ, ◌+◌, ◌*◌, ◌/◌, ◌%◌, ◌<◌, ◌≤◌, ◌⊎◌, ◌&&◌, Bool, true, false, not, cond, Some, None, nat_lt, ℤ, pos, ◌+ℤ◌, ◌*ℤ◌, ◌≤ℤ◌, ◌<ℤ◌, refl, sym, ap, ap₂, ◌∙◌, subst, arith, inl, inr, le-ltb, lt-ltb}
-use Rattle.std.proofs.lemmas.Bool.{ltb-true, ltb-false, cases_lt}
+use Rattle.std.proofs.lemmas.Bool.{ltb-true, ltb-false, cases_lt, and_parts, not-true}
 use Rattle.std.proofs.lemmas.Int.{ints}
 use Rattle.std.specs.Prelude.{Result, Ok, Err, IfOk, nat_abs}
 use Rattle.std.specs.Result.{result_ok}
@@ -15,18 +15,10 @@ use Rattle.grib_migrate.specs.declared.date.Moment.{Moment}
 use Rattle.grib_migrate.specs.Dates.{moment, is_within, is_civil, IsCivil, time_of_day, later, IsAt, within_9999, later_in}
 use Rattle.grib_migrate.proofs.Dates.{IsDay, later_is_day, later_time}
 
-and_true : (a b : Bool) → (a && b) ≡ true → (a ≡ true) × (b ≡ true)
-and_true true b e = (refl, e)
-and_true false b e = cc
-
-not_true : (a : Bool) → not a ≡ true → a ≡ false
-not_true true e = cc
-not_true false e = refl
-
 within_true : (low high n : ℕ) → is_within low high n ≡ true → (low ≤ n) × (n ≤ high)
 within_true low high n e =
-    let both = and_true (not (nat_lt n low)) (not (nat_lt high n)) e in
-    (ltb-false n low (not_true (nat_lt n low) both.0), ltb-false high n (not_true (nat_lt high n) both.1))
+    let both = and_parts (not (nat_lt n low)) (not (nat_lt high n)) e in
+    (ltb-false n low (not-true (nat_lt n low) both.0), ltb-false high n (not-true (nat_lt high n) both.1))
 
 and_6 : (a b c d e f : Bool) → (a && b && c && d && e && f) ≡ true → (a ≡ true) × (b ≡ true) × (c ≡ true) × (d ≡ true) × (e ≡ true) × (f ≡ true)
 and_6 false b c d e f h = cc

@@ -8,10 +8,10 @@ use Rattle.grib_bits.proofs.OctetNumbers.{octets-lt}
 use Rattle.grib2_sections.specs.Template.{template, is_template, least_length}
 use Rattle.grib1_sections.specs.Frame.{section_length}
 use Rattle.grib1_sections.specs.Grammar.{IsSection, IsBitmap}
-use Rattle.grib1_sections.specs.Identification.{identification_rows}
-use Rattle.grib1_sections.specs.Bitmap.{bitmap_rows}
-use Rattle.grib1_sections.specs.Data.{data_rows, bit_width}
-use Rattle.grib1_sections.specs.Grid.{grid_types, grid_type, grid_rows, list_place, lists_end, row_count, nj, nv}
+use Rattle.grib1_sections.specs.Identification.{identification_rules}
+use Rattle.grib1_sections.specs.Bitmap.{bitmap_rules}
+use Rattle.grib1_sections.specs.Data.{data_rules, bit_width}
+use Rattle.grib1_sections.specs.Grid.{grid_types, grid_type, grid_rules, list_place, lists_end, row_count, nj, nv}
 use Rattle.grib_base.proofs.Passing.{passes_from_none}
 use Rattle.grib_base.specs.declared.limits.TheConstants.{MOST_POINTS}
 use Rattle.grib1_sections.proofs.Listed.{holds_lists}
@@ -39,13 +39,13 @@ known_by false false false false false h = cc
 known_least : (t : ℕ) → is_template grid_types t ≡ true → 32 ≤ least_length grid_types t
 known_least t h = known_by (0 == t) (1 == t) (3 == t) (4 == t) (5 == t) h
 
-grid_holds : (s : List ℕ) → IsSection 6 grid_rows s → HoldsGrid s
+grid_holds : (s : List ℕ) → IsSection 6 grid_rules s → HoldsGrid s
 grid_holds s is =
-    let p = passes_from_none (grid_rows s) is.rows_hold in
+    let p = passes_from_none (grid_rules s) is.rules_hold in
     let known = not-false (is_template grid_types (grid_type s)) p.0 in
     let long = ltb-false (length s) (least_length grid_types (grid_type s)) p.1.0 in
     let least = known_least (grid_type s) known in
-    let lists = holds_lists s is.rows_hold in
+    let lists = holds_lists s is.rules_hold in
     record {
       known = known;
       long = long;
@@ -60,16 +60,16 @@ grid_holds s is =
 bits_hold : (o : Option (List ℕ)) (points : ℕ) → IsBitmap points o → HoldsBits o points
 bits_hold None points is = tt
 bits_hold (Some s) points is =
-    let p = passes_from_none (bitmap_rows points s) is.rows_hold in
+    let p = passes_from_none (bitmap_rules points s) is.rules_hold in
     ltb-false (8 * length s) (points + 48) p.1.0
 
-numbers_hold : (s : List ℕ) (values : ℕ) → IsSection 11 (data_rows values) s → values * bit_width s + 88 ≤ 8 * length s
+numbers_hold : (s : List ℕ) (values : ℕ) → IsSection 11 (data_rules values) s → values * bit_width s + 88 ≤ 8 * length s
 numbers_hold s values is =
-    let p = passes_from_none (data_rows values s) is.rows_hold in
+    let p = passes_from_none (data_rules values s) is.rules_hold in
     ltb-false (8 * length s) (values * bit_width s + 88) p.1.1.1.1.0
 
-pub all_hold : (s1 s2 : List ℕ) (s3 : Option (List ℕ)) (s4 : List ℕ) (points values : ℕ) → IsSection 28 identification_rows s1 → IsSection 6 grid_rows s2 → IsBitmap points s3
-    → IsSection 11 (data_rows values) s4 → points ≤ MOST_POINTS → Holds s1 s2 s3 s4 points values
+pub all_hold : (s1 s2 : List ℕ) (s3 : Option (List ℕ)) (s4 : List ℕ) (points values : ℕ) → IsSection 28 identification_rules s1 → IsSection 6 grid_rules s2 → IsBitmap points s3
+    → IsSection 11 (data_rules values) s4 → points ≤ MOST_POINTS → Holds s1 s2 s3 s4 points values
 all_hold s1 s2 s3 s4 points values one two three four few = record {
   identification = one.long;
   stands = one.length_stands;

@@ -3,7 +3,7 @@ use Rattle.std.specs.Prelude.{◌≡◌, ℕ, ◌≤◌, true, cond, Option, Som
 use Rattle.grib_params.specs.Surfaces.{SurfaceEntries}
 use Rattle.grib_params.specs.Table.{Entries}
 use Rattle.grib1_sections.specs.Keys.{key_in}
-use Rattle.grib1_sections.specs.declared.key.Key1.TheVariants.{P1, P2, TimeRange}
+use Rattle.grib_keys.specs.declared.key1.Key1.TheVariants.{P1, P2, TimeRange}
 use Rattle.grib_migrate.specs.declared.checking.Product.{Product}
 use Rattle.grib_migrate.specs.declared.date.Moment.{Moment}
 use Rattle.grib_migrate.specs.declared.labels.Local.{Local}

@@ -8,7 +8,7 @@ use Rattle.grib_params.specs.declared.surface_row.SurfaceTarget.{SurfaceTarget}
 use Rattle.grib_params.specs.Table.{Entries}
 use Rattle.grib_params.specs.Surfaces.{SurfaceEntries, surface_in}
 use Rattle.grib1_sections.specs.Keys.{key_in}
-use Rattle.grib1_sections.specs.declared.key.Key1.TheVariants.{Version, Centre, Parameter, LevelType, Level}
+use Rattle.grib_keys.specs.declared.key1.Key1.TheVariants.{Version, Centre, Parameter, LevelType, Level}
 use Rattle.grib_migrate.specs.declared.level.Surfaces.{Surfaces}
 use Rattle.grib_migrate.specs.Source.{target_in}
 use Rattle.grib_migrate.specs.Levels.{surface, one_surface, surfaces_of}

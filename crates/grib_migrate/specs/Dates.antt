@@ -4,7 +4,7 @@ use Rattle.std.specs.Prelude.{ℕ, zero, suc, ◌+◌, ◌-◌, ◌*◌, ◌/◌
 use Rattle.jiff_core.specs.Calendar.{days_in_month, days_from_civil}
 use Rattle.jiff_core.specs.declared.civil.datetime.DateTime.{DateTime}
 use Rattle.grib1_sections.specs.Keys.{key_in}
-use Rattle.grib1_sections.specs.declared.key.Key1.TheVariants.{YearOfCentury, Month, Day, Hour, Minute, P2, Century}
+use Rattle.grib_keys.specs.declared.key1.Key1.TheVariants.{YearOfCentury, Month, Day, Hour, Minute, P2, Century}
 use Rattle.grib_migrate.specs.declared.date.Moment.{Moment}
 
 -- The year of a Section 1: 100 (Century - 1) + YearOfCentury. What would be below 0 is 0 here; there is no such

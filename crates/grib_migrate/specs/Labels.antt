@@ -10,7 +10,7 @@ use Rattle.grib_bits.specs.Encoding.{section_of, all_octets, missing_1}
 use Rattle.grib_bits.specs.declared.adding.Number.{Number}
 use Rattle.grib_bits.specs.declared.adding.Number.TheVariants.{One, Two, Four}
 use Rattle.grib1_sections.specs.Keys.{key_in}
-use Rattle.grib1_sections.specs.declared.key.Key1.TheVariants.{Centre}
+use Rattle.grib_keys.specs.declared.key1.Key1.TheVariants.{Centre}
 use Rattle.grib_migrate.specs.declared.labels.Local.{Local}
 use Rattle.grib_migrate.specs.declared.labels.Local.TheVariants.{Refuse, Keep, Ecmwf}
 use Rattle.grib_migrate.specs.declared.labels.Member.{Member}

@@ -4,7 +4,7 @@
 use Rattle.std.specs.Prelude.{ℕ, ◌*◌, Bool, not, cond, ◌&&◌, ◌||◌, Option, Some, None, option_map, find, List, [], ◌∷◌, nat_lt, ◌==◌}
 use Rattle.grib_bits.specs.Octets.{octets}
 use Rattle.grib1_sections.specs.Keys.{key_in}
-use Rattle.grib1_sections.specs.declared.key.Key1.TheVariants.{LevelType, Level}
+use Rattle.grib_keys.specs.declared.key1.Key1.TheVariants.{LevelType, Level}
 use Rattle.grib_migrate.specs.declared.level.Surface.{Surface}
 use Rattle.grib_migrate.specs.declared.level.Surfaces.{Surfaces}
 use Rattle.grib_bits.specs.Encoding.{missing_1, missing_4}

@@ -8,7 +8,7 @@ use Rattle.grib_params.specs.Table.{Entries}
 use Rattle.grib1_sections.specs.Acceptance.{identification, grid, data_section}
 use Rattle.grib1_sections.specs.Coordinates.{coordinate_list}
 use Rattle.grib1_sections.specs.Keys.{key_in}
-use Rattle.grib1_sections.specs.declared.key.Key1.TheVariants.{TimeRange, AverageCount, AverageMissing}
+use Rattle.grib_keys.specs.declared.key1.Key1.TheVariants.{TimeRange, AverageCount, AverageMissing}
 use Rattle.grib_reasons.specs.declared.loss.Loss.{Loss}
 use Rattle.grib_reasons.specs.declared.loss.Loss.TheVariants as losses
 use Rattle.grib_migrate.specs.declared.labels.Local.{Local}

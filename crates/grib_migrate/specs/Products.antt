@@ -5,7 +5,7 @@ use Rattle.std.specs.Prelude.{ℕ, ◌-◌, cond, Option, Some, None, List, [], 
 use Rattle.std.specs.Option.{option_map_or}
 use Rattle.grib_params.specs.declared.row.Target.{Target}
 use Rattle.grib1_sections.specs.Keys.{key_in}
-use Rattle.grib1_sections.specs.declared.key.Key1.TheVariants.{Centre, SubCentre, Process, P1, P2, TimeRange, AverageMissing}
+use Rattle.grib_keys.specs.declared.key1.Key1.TheVariants.{Centre, SubCentre, Process, P1, P2, TimeRange, AverageMissing}
 use Rattle.grib_bits.specs.declared.adding.Number.{Number}
 use Rattle.grib_bits.specs.declared.adding.Number.TheVariants.{One, Two, Four}
 use Rattle.grib_migrate.specs.declared.date.Moment.{Moment}

@@ -4,7 +4,7 @@ use Rattle.std.specs.Prelude.{ℕ, Bool, Option, List, drop, length, nat_lt, unw
 use Rattle.grib_params.specs.Table.{Entries, lookup_in}
 use Rattle.grib_params.specs.declared.row.Target.{Target}
 use Rattle.grib1_sections.specs.Keys.{key_in}
-use Rattle.grib1_sections.specs.declared.key.Key1.TheVariants.{Version, Centre, Parameter}
+use Rattle.grib_keys.specs.declared.key1.Key1.TheVariants.{Version, Centre, Parameter}
 
 -- what the table has for a Section 1
 abbrev pub target_in : Entries → List ℕ → Option Target

@@ -4,7 +4,7 @@ use Rattle.std.specs.Prelude.{ℕ, Bool, not, cond, ◌&&◌, ◌||◌, Option, 
 use Rattle.std.specs.List.{list_any}
 use Rattle.grib_bits.specs.Octets.{octets}
 use Rattle.grib1_sections.specs.Keys.{key_in}
-use Rattle.grib1_sections.specs.declared.key.Key1.TheVariants.{Unit as TimeUnit, P1, P2, TimeRange}
+use Rattle.grib_keys.specs.declared.key1.Key1.TheVariants.{Unit as TimeUnit, P1, P2, TimeRange}
 use Rattle.grib_migrate.specs.declared.time.Unit.{Unit as UnitOfTime}
 
 -- a unit by its code in edition 1, with its code in edition 2 and its seconds

@@ -6,7 +6,7 @@ use Rattle.grib_bits.specs.Bits.{bit, digit}
 use Rattle.grib_bits.specs.Octets.{octets}
 use Rattle.grib1_sections.specs.Data.{data_flags, bit_width}
 use Rattle.grib1_sections.specs.Keys.{key_in}
-use Rattle.grib1_sections.specs.declared.key.Key1.TheVariants.{DecimalScale}
+use Rattle.grib_keys.specs.declared.key1.Key1.TheVariants.{DecimalScale}
 use Rattle.grib_bits.specs.declared.adding.Number.{Number}
 use Rattle.grib_bits.specs.declared.adding.Number.TheVariants.{One, Two, Four}
 use Rattle.grib_migrate.specs.References.{binary32_of}

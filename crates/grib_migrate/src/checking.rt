@@ -2,7 +2,7 @@
 
 ghost use Rattle.std.specs.Prelude.{◌≡◌, ◌≤◌, true, false, Some, None, length, MatchResult};
 ghost use Rattle.grib1_sections.specs.Keys.{key_in};
-ghost use Rattle.grib1_sections.specs.declared.key.Key1.TheVariants.{P1, P2, TimeRange};
+ghost use Rattle.grib_keys.specs.declared.key1.Key1.TheVariants.{P1, P2, TimeRange};
 ghost use Rattle.grib_migrate.specs.Losses as losses;
 ghost use Rattle.grib_migrate.specs.Losses.{chosen_losses, first_of, loses_date};
 ghost use Rattle.grib_migrate.specs.Chosen as chosen;

@@ -3,7 +3,7 @@
 ghost use Rattle.std.specs.Prelude.{◌≡◌, ◌↔◌, ℕ, ◌*◌, Bool, List, [], Some, pos, ◌+ℤ◌};
 ghost use Rattle.grib_params.specs.Table.{Entries};
 ghost use Rattle.grib1_sections.specs.Keys.{key_in};
-ghost use Rattle.grib1_sections.specs.declared.key.Key1.TheVariants.{P2};
+ghost use Rattle.grib_keys.specs.declared.key1.Key1.TheVariants.{P2};
 ghost use Rattle.grib_migrate.specs.declared.date.Moment.{Moment};
 ghost use Rattle.grib_migrate.specs.Labels.{kept_where};
 ghost use Rattle.grib_migrate.specs.Losses.{first_loss, first_loss_with};

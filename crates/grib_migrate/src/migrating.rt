@@ -9,7 +9,7 @@ ghost use Rattle.grib_migrate.specs.Migrated.{migrated, migrated_with, bitmap_se
 ghost use Rattle.grib1_sections.specs.Keys.{key_in};
 ghost use Rattle.grib1_sections.specs.Data.{bit_width};
 ghost use Rattle.grib1_sections.specs.Frame.{section_length};
-ghost use Rattle.grib1_sections.specs.declared.key.Key1.TheVariants.{P1, P2, TimeRange};
+ghost use Rattle.grib_keys.specs.declared.key1.Key1.TheVariants.{P1, P2, TimeRange};
 ghost use Rattle.grib_migrate.specs.Times.{is_interval};
 ghost use Rattle.grib_migrate.specs.Checked.{end_in};
 ghost use Rattle.grib_migrate.specs.Held.{Holds, HoldsBits};

@@ -6,7 +6,7 @@ ghost use Rattle.grib_migrate.specs.Labels.{member_numbers};
 ghost use Rattle.grib_migrate.specs.Products as products;
 ghost use Rattle.grib_migrate.specs.Losses.{coordinate_loss};
 ghost use Rattle.grib1_sections.specs.Keys.{key_in};
-ghost use Rattle.grib1_sections.specs.declared.key.Key1.TheVariants.{P1, P2, TimeRange};
+ghost use Rattle.grib_keys.specs.declared.key1.Key1.TheVariants.{P1, P2, TimeRange};
 ghost use Rattle.grib_migrate.specs.Times as times;
 ghost use Rattle.grib_migrate.specs.Dates.{end_of};
 ghost use Rattle.grib_migrate.specs.Checked.{end_in};

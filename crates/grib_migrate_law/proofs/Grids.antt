@@ -1,4 +1,4 @@
--- Section 3 as it is written passes its rows.
+-- Section 3 as it is written passes its rules.
 use Rattle.std.proofs.Common.{◌≡◌, ℕ, ◌+◌, ◌-◌, ◌*◌, ◌/◌, ◌^◌, ◌<◌, ◌≤◌, ◌⊎◌, ◌&&◌, ◌||◌, ◌==◌, Bool, true, false, not, cond, min, None, List, [], ◌∷◌, ◌++◌, length, take, drop, sum, nat_lt, refl, sym, ap, ap₂, ◌∙◌, subst, arith, inl, inr, le-ltb, eq-eqb, ne_eqb}
 use Rattle.std.proofs.Math.Nat.{min-eq_left, eq-zero-or-pos}
 use Rattle.std.proofs.lemmas.Bool.{eqb-true}
@@ -10,11 +10,11 @@ use Rattle.grib_bits.specs.Listed.{numbers_at}
 use Rattle.grib_bits.proofs.Encoding.{num_on-octets_of, StatesItself-section_of}
 use Rattle.grib_bits.proofs.OctetBits.{AreOctets}
 use Rattle.grib_bits.proofs.OctetNumbers.{octets-lt}
-use Rattle.grib_base.specs.Rows.{first_fault}
+use Rattle.grib_base.specs.Rules.{first_fault}
 use Rattle.grib_base.proofs.Passing.{passes_from_none, none_from_passes, second_fails}
 use Rattle.grib_base.specs.declared.limits.TheConstants.{MOST_POINTS}
 use Rattle.grib2_sections.specs.Template.{is_template, least_length}
-use Rattle.grib2_grids.specs.Grid.{grid_templates, grid_rows, grid_points, grid_template, may_have_list, list_start, row_list}
+use Rattle.grib2_grids.specs.Grid.{grid_templates, grid_rules, grid_points, grid_template, may_have_list, list_start, row_list}
 use Rattle.grib2_grids.specs.Grid as grid2
 use Rattle.grib1_sections.specs.Grid.{grid_types, grid_type, ni, nj, nv, list_place, lists_rows, row_count, lists_end, is_regular}
 use Rattle.grib1_sections.specs.Grid as grid1
@@ -100,8 +100,8 @@ module _ (points t shape columns rows : ℕ) (numbers list : List ℕ) (some : 1
       ∙ sym (points_stand false points t shape columns rows numbers list some few is columns_fit rows_fit) in
       ap not (eq-eqb (grid2.ni s * grid2.nj s) (grid_points s) same)
 
-  plain_passes : first_fault (grid_rows (section_with false points t shape columns rows numbers list)) ≡ None
-  plain_passes = none_from_passes (grid_rows (section_with false points t shape columns rows numbers list)) (
+  plain_passes : first_fault (grid_rules (section_with false points t shape columns rows numbers list)) ≡ None
+  plain_passes = none_from_passes (grid_rules (section_with false points t shape columns rows numbers list)) (
     long_enough false points t shape columns rows numbers list some few is columns_fit rows_fit,
     (
       refl,
@@ -200,10 +200,10 @@ module _ (points t shape columns rows : ℕ) (numbers s : List ℕ) (at count : 
       ap not (eq-eqb (sum (row_list w)) (grid_points w)
       (ap sum list_stands ∙ total ∙ sym (points_stand true points t shape columns rows numbers list some few is columns_fit rows_fit)))
 
-  listed_passes : first_fault (grid_rows (section_with true points t shape columns rows numbers (take (2 * count) (drop at s)))) ≡ None
+  listed_passes : first_fault (grid_rules (section_with true points t shape columns rows numbers (take (2 * count) (drop at s)))) ≡ None
   listed_passes =
       let list = take (2 * count) (drop at s) in
-      none_from_passes (grid_rows (section_with true points t shape columns rows numbers list)) (
+      none_from_passes (grid_rules (section_with true points t shape columns rows numbers list)) (
         long_enough true points t shape columns rows numbers list some few is columns_fit rows_fit,
         (
           refl,
@@ -263,7 +263,7 @@ list_for t (inr (inr (inr (inr e)))) free = let both : true ≡ false = sym (ap 
 
 -- ---- the section of a grid
 
-module _ (s : List ℕ) (points : ℕ) (known : AreOctets s) (passes : first_fault (grid1.grid_rows s) ≡ None) (holds : HoldsGrid s) (is : points ≡ grid1.grid_points s)
+module _ (s : List ℕ) (points : ℕ) (known : AreOctets s) (passes : first_fault (grid1.grid_rules s) ≡ None) (holds : HoldsGrid s) (is : points ≡ grid1.grid_points s)
     (some : 1 ≤ points) (few : points ≤ MOST_POINTS) where
   ni_fits : ni s < 65536
   ni_fits = let long = holds.least in octets-lt s 7 8 2 known (omega arith) (omega arith) (omega arith)
@@ -282,14 +282,14 @@ module _ (s : List ℕ) (points : ℕ) (known : AreOctets s) (passes : first_fau
   columns_by false = let fits = ni_fits in omega arith
 
   section_by : (b : Bool) → lists_rows s ≡ b
-      → first_fault (grid_rows (section_with (lists_rows s) points (template_of (grid_type s)) (2 * digit (bit 2 (flags s)))
+      → first_fault (grid_rules (section_with (lists_rows s) points (template_of (grid_type s)) (2 * digit (bit 2 (flags s)))
       (cond (lists_rows s) missing_4 (ni s)) (nj s) (all_octets (numbers_for s (grid_type s))) (row_octets s))) ≡ None
   section_by false e =
       let columns = cond (lists_rows s) missing_4 (ni s) in
       let columns_are : columns ≡ ni s = ap (λ (b : Bool). cond b missing_4 (ni s)) e in
       let points_are : grid1.grid_points s ≡ ni s * nj s = ap (λ (b : Bool). cond b (sum (grid1.row_list s)) (ni s * nj s)) e in
       let product : columns * nj s ≡ points = ap (λ (n : ℕ). n * nj s) columns_are ∙ sym points_are ∙ sym is in
-      subst (λ (b : Bool). first_fault (grid_rows (section_with b points (template_of (grid_type s)) (2 * digit (bit 2 (flags s))) columns (nj s)
+      subst (λ (b : Bool). first_fault (grid_rules (section_with b points (template_of (grid_type s)) (2 * digit (bit 2 (flags s))) columns (nj s)
       (all_octets (numbers_for s (grid_type s))) (row_octets s))) ≡ None) (sym e)
       (plain_passes points (template_of (grid_type s)) (2 * digit (bit 2 (flags s))) columns (nj s) (all_octets (numbers_for s (grid_type s))) (row_octets s)
       some few template_is (columns_by (lists_rows s)) (let fits = nj_fits in omega arith) product)
@@ -303,14 +303,14 @@ module _ (s : List ℕ) (points : ℕ) (known : AreOctets s) (passes : first_fau
       let place : at + 1 ≡ list_place s + 4 * nv s = omega arith in
       let total : sum (numbers_at s (at + 1) 2 (row_count s)) ≡ points =
       ap (λ (n : ℕ). sum (numbers_at s n 2 (row_count s))) place ∙ sym points_are ∙ sym is in
-      let p = passes_from_none (grid1.grid_rows s) passes in
+      let p = passes_from_none (grid1.grid_rules s) passes in
       let free : is_regular (grid_type s) ≡ false = second_fails (lists_rows s) (is_regular (grid_type s)) p.1.1.1.0 e in
-      subst (λ (b : Bool). first_fault (grid_rows (section_with b points (template_of (grid_type s)) (2 * digit (bit 2 (flags s))) columns (nj s)
+      subst (λ (b : Bool). first_fault (grid_rules (section_with b points (template_of (grid_type s)) (2 * digit (bit 2 (flags s))) columns (nj s)
       (all_octets (numbers_for s (grid_type s))) (row_octets s))) ≡ None) (sym e)
       (listed_passes points (template_of (grid_type s)) (2 * digit (bit 2 (flags s))) columns (nj s) (all_octets (numbers_for s (grid_type s))) s at (row_count s)
       some few template_is (columns_by (lists_rows s)) nj_fits (list_for (grid_type s) type_is free) rows_are ends total)
 
-  pub grid_passes : first_fault (grid_rows (section_of 3 (grid_octets points s))) ≡ None
+  pub grid_passes : first_fault (grid_rules (section_of 3 (grid_octets points s))) ≡ None
   grid_passes = section_by (lists_rows s) refl
 
   pub grid_points_stand : grid_points (section_of 3 (grid_octets points s)) ≡ points

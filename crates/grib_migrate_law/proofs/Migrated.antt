@@ -12,11 +12,11 @@ use Rattle.grib_bits.proofs.Encoding.{length-octets_of, StatesItself-section_of}
 use Rattle.grib_bits.proofs.OctetBits.{AreOctets}
 use Rattle.grib_bits.proofs.OctetNumbers.{AreOctets-octet_list, octets-lt}
 use Rattle.grib_bits.proofs.Listed.{AreOctets-from_All}
-use Rattle.grib_base.specs.Rows.{first_fault}
+use Rattle.grib_base.specs.Rules.{first_fault}
 use Rattle.grib_base.proofs.Passing.{passes_from_none}
 use Rattle.grib_base.specs.declared.limits.TheConstants.{MOST_POINTS}
 use Rattle.grib_dyadic.specs.Meaning.{SameMeaning}
-use Rattle.grib_bitmap.specs.Mask.{present_count, bitmap_rows}
+use Rattle.grib_bitmap.specs.Mask.{present_count, bitmap_rules}
 use Rattle.grib_bitmap.specs.Mask as mask2
 use Rattle.grib2_grids.specs.Grid.{grid_points}
 use Rattle.grib_base.specs.declared.profile.Profile.TheVariants.{Stated}
@@ -30,8 +30,8 @@ use Rattle.grib_params.specs.Table.{Entries}
 use Rattle.grib_params.specs.declared.row.Target.{Target}
 use Rattle.grib1_sections.specs.Frame.{section_at}
 use Rattle.grib1_sections.specs.Keys.{key_in}
-use Rattle.grib1_sections.specs.declared.key.Key1.TheVariants.{DecimalScale}
-use Rattle.grib1_sections.specs.Data.{data_rows, data_flags, bit_width}
+use Rattle.grib_keys.specs.declared.key1.Key1.TheVariants.{DecimalScale}
+use Rattle.grib1_sections.specs.Data.{data_rules, data_flags, bit_width}
 use Rattle.grib1_sections.specs.Grid.{nv}
 use Rattle.grib1_sections.specs.Coordinates.{coordinate_list}
 use Rattle.grib1_sections.specs.Bitmap.{mask_of}
@@ -129,7 +129,7 @@ known m accepted small r is =
     let least = holds.identification in
     let word_fits : reference s4 < 2 ^ 32 = octets-lt s4 7 10 4 o4 (omega arith) (omega arith) (omega arith) in
     let word = word_stands (reference s4) r word_fits is in
-    let rows = passes_from_none (data_rows (values_of m) s4) passes.data_stands.rows_hold in
+    let rules = passes_from_none (data_rules (values_of m) s4) passes.data_stands.rules_hold in
     record {
       sections = passes;
       holds = holds;
@@ -146,7 +146,7 @@ known m accepted small r is =
         finite = word.finite;
         e_fits = octets-lt s4 5 6 2 o4 (omega arith) (omega arith) (omega arith);
         d_fits = octets-lt s1 27 28 2 o1 (omega arith) (omega arith) (omega arith);
-        few_bits = ltb-false 48 (bit_width s4) rows.1.1.1.0;
+        few_bits = ltb-false 48 (bit_width s4) rules.1.1.1.0;
       };
     }
 
@@ -191,7 +191,7 @@ module _ (target : Target) (unit : UnitOfTime) (surfaces : Surfaces) (member : O
   data_within = omega (arith, is.holds.numbers, length-drop 11 (data_section m))
 
   points_are : grid_points (written_3 m) ≡ points_of m
-  points_are = grid_points_stand (grid m) (points_of m) is.octets_2 is.sections.grid_stands.rows_hold is.holds.grid refl is.some is.few
+  points_are = grid_points_stand (grid m) (points_of m) is.octets_2 is.sections.grid_stands.rules_hold is.holds.grid refl is.some is.few
 
   front_passes : FrontPasses (written_1 target (identification m)) (written_2 own)
   front_passes = record {
@@ -213,15 +213,15 @@ module _ (target : Target) (unit : UnitOfTime) (surfaces : Surfaces) (member : O
       let here = points_are in
       let back = sym here in
       record {
-        itself_3 = grid_itself (grid m) points is.octets_2 is.sections.grid_stands.rows_hold is.holds.grid refl is.some is.few;
+        itself_3 = grid_itself (grid m) points is.octets_2 is.sections.grid_stands.rules_hold is.holds.grid refl is.some is.few;
         itself_4 = product_itself member target s1 (coordinate_list (grid m)) unit surfaces few_coordinates;
         itself_5 = packing_itself values r e d width kind is.may;
         itself_6 = bitmap_itself points is.few (bitmap m) is.holds.bitmap;
         itself_7 = data_itself values r e d width kind (drop 11 s4) is.may data_within (omega (arith, short_4, length-drop 11 s4));
-        grid = grid_passes (grid m) points is.octets_2 is.sections.grid_stands.rows_hold is.holds.grid refl is.some is.few;
+        grid = grid_passes (grid m) points is.octets_2 is.sections.grid_stands.rules_hold is.holds.grid refl is.some is.few;
         product = product_passes member target s1 (coordinate_list (grid m)) unit surfaces few_coordinates;
         packing = ap (packing_fault_under Stated (written_5 m r)) here ∙ packing_passes values r e d width kind is.may points is.values_few;
-        bitmap = λ earlier. ap₂ (λ (n k : ℕ). first_fault (bitmap_rows (written_6 m) n k earlier)) here
+        bitmap = λ earlier. ap₂ (λ (n k : ℕ). first_fault (bitmap_rules (written_6 m) n k earlier)) here
             (values_stand values r e d width kind is.may)
             ∙ bitmap_passes points is.few (bitmap m) is.holds.bitmap values refl earlier;
         values = data_passes values r e d width kind (drop 11 s4) is.may data_within;
@@ -239,7 +239,7 @@ module _ (target : Target) (unit : UnitOfTime) (surfaces : Surfaces) (member : O
   sum_short has =
       by has (written_1 target (identification m)) (written_2 own) (written_3 m) (written_4 member target unit surfaces m) (written_5 m r) (written_6 m) (written_7 m) (omega arith)
       (omega (arith, brief, length-append (octets_of 4 (5 + length own)) (2 ∷ own), length-octets_of 4 (5 + length own)))
-      (grid_short (grid m) (points_of m) is.octets_2 is.sections.grid_stands.rows_hold is.holds.grid refl is.some is.few)
+      (grid_short (grid m) (points_of m) is.octets_2 is.sections.grid_stands.rules_hold is.holds.grid refl is.some is.few)
       (product_short member target (identification m) (coordinate_list (grid m)) unit surfaces few_coordinates) (omega arith)
       (bitmap_short (points_of m) is.few (bitmap m) is.holds.bitmap)
       (let s = data_short (values_of m) r (octets (data_section m) 5 6) (key_in (identification m) DecimalScale) (bit_width (data_section m)) (digit (bit 3 (data_flags (data_section m)))) (drop 11 (data_section m)) is.may data_within in

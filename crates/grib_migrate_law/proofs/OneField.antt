@@ -1,14 +1,14 @@
--- Sections of a message with one field, which pass their rows, follow one another.
+-- Sections of a message with one field, which pass their rules, follow one another.
 use Rattle.std.proofs.Common.{◌≡◌, ◌≢◌, ℕ, ◌+◌, ◌≤◌, ◌==◌, Bool, true, false, count_by, Option, None, List, [], ◌∷◌, length, refl, ap, ap₂, ◌∙◌, sym, arith, eq-eqb, ne_eqb}
 use Rattle.grib_bits.specs.Octets.{StatesItself}
-use Rattle.grib_base.specs.Rows.{first_fault, located}
-use Rattle.grib_bitmap.specs.Mask.{bitmap_rows, mask_of}
+use Rattle.grib_base.specs.Rules.{first_fault, located}
+use Rattle.grib_bitmap.specs.Mask.{bitmap_rules, mask_of}
 use Rattle.grib_packing.specs.Packing.{value_count}
 use Rattle.grib_packing.specs.Entries.{packing_fault_under, data_fault}
 use Rattle.grib_base.specs.declared.profile.Profile.TheVariants.{Stated}
 use Rattle.grib2_sections.specs.Frame.{Placed, placed_at, section_number, may_follow, may_end}
-use Rattle.grib2_grids.specs.Grid.{grid_rows, grid_points}
-use Rattle.grib2_products.specs.Product.{product_rows}
+use Rattle.grib2_grids.specs.Grid.{grid_rules, grid_points}
+use Rattle.grib2_products.specs.Product.{product_rules}
 use Rattle.grib2_message.specs.Grammar.{IsSection, AreSections}
 use Rattle.grib2_message.specs.View.{is_numbered, last_number, octets_in_force, points_in_force, earlier_mask, mask_in_force, section_count}
 use Rattle.grib2_message.specs.Fields.{sections_up_to_field}
@@ -16,17 +16,17 @@ use Rattle.grib2_message.proofs.Latest.{octets_same, octets_other}
 use Rattle.grib2_message.proofs.Placing.{placed_from}
 use Rattle.grib2_message.proofs.Sound.{fault_of, mask_here, mask_kept, points_kept, count_other}
 
--- Sections 3 to 7 of a field, which no row refuses, whatever bitmap stands before
+-- Sections 3 to 7 of a field, which no rule refuses, whatever bitmap stands before
 pub record FieldPasses (s3 s4 s5 s6 s7 : List ℕ) : Type 0 where
   pub itself_3 : StatesItself 3 s3
   pub itself_4 : StatesItself 4 s4
   pub itself_5 : StatesItself 5 s5
   pub itself_6 : StatesItself 6 s6
   pub itself_7 : StatesItself 7 s7
-  pub grid : first_fault (grid_rows s3) ≡ None
-  pub product : first_fault (product_rows s4 1) ≡ None
+  pub grid : first_fault (grid_rules s3) ≡ None
+  pub product : first_fault (product_rules s4 1) ≡ None
   pub packing : packing_fault_under Stated s5 (grid_points s3) ≡ None
-  pub bitmap : (earlier : Option (List Bool)) → first_fault (bitmap_rows s6 (grid_points s3) (value_count s5) earlier) ≡ None
+  pub bitmap : (earlier : Option (List Bool)) → first_fault (bitmap_rules s6 (grid_points s3) (value_count s5) earlier) ≡ None
   pub values : data_fault s5 s7 ≡ None
 
 -- sections before the first Section 3
@@ -88,7 +88,7 @@ module _ (before : List Placed) (start : ℕ) (s3 s4 s5 s6 s7 : List ℕ) (first
     length_stands = parts.itself_3.length_stands;
     least = parts.itself_3.least;
     follows = ap (may_follow (last_number before)) parts.itself_3.number_stands ∙ first.follows;
-    rows_hold = fault_of Stated before (placed_at start s3) 3 parts.itself_3.number_stands ∙ ap (located start) parts.grid;
+    rules_hold = fault_of Stated before (placed_at start s3) 3 parts.itself_3.number_stands ∙ ap (located start) parts.grid;
   }
 
   is_4 : IsSection Stated (before_4 before start s3 s4 s5 s6 s7) (start + length s3) s4
@@ -98,8 +98,8 @@ module _ (before : List Placed) (start : ℕ) (s3 s4 s5 s6 s7 : List ℕ) (first
         length_stands = parts.itself_4.length_stands;
         least = parts.itself_4.least;
         follows = ap₂ may_follow parts.itself_3.number_stands parts.itself_4.number_stands;
-        rows_hold = fault_of Stated b (placed_at place s4) 4 parts.itself_4.number_stands
-            ∙ ap (λ (n : ℕ). located place (first_fault (product_rows s4 (n + 1)))) (none_4 before start s3 s4 s5 s6 s7 first parts)
+        rules_hold = fault_of Stated b (placed_at place s4) 4 parts.itself_4.number_stands
+            ∙ ap (λ (n : ℕ). located place (first_fault (product_rules s4 (n + 1)))) (none_4 before start s3 s4 s5 s6 s7 first parts)
             ∙ ap (located place) parts.product;
       }
 
@@ -110,7 +110,7 @@ module _ (before : List Placed) (start : ℕ) (s3 s4 s5 s6 s7 : List ℕ) (first
         length_stands = parts.itself_5.length_stands;
         least = parts.itself_5.least;
         follows = ap₂ may_follow parts.itself_4.number_stands parts.itself_5.number_stands;
-        rows_hold = fault_of Stated b (placed_at place s5) 5 parts.itself_5.number_stands
+        rules_hold = fault_of Stated b (placed_at place s5) 5 parts.itself_5.number_stands
             ∙ ap (λ (points : ℕ). located place (packing_fault_under Stated s5 points)) (points_5 before start s3 s4 s5 s6 s7 first parts)
             ∙ ap (located place) parts.packing;
       }
@@ -123,8 +123,8 @@ module _ (before : List Placed) (start : ℕ) (s3 s4 s5 s6 s7 : List ℕ) (first
         length_stands = parts.itself_6.length_stands;
         least = parts.itself_6.least;
         follows = ap₂ may_follow parts.itself_5.number_stands parts.itself_6.number_stands;
-        rows_hold = fault_of Stated b (placed_at place s6) 6 parts.itself_6.number_stands
-            ∙ ap₂ (λ (points : ℕ) (s : List ℕ). located place (first_fault (bitmap_rows s6 points (value_count s) earlier)))
+        rules_hold = fault_of Stated b (placed_at place s6) 6 parts.itself_6.number_stands
+            ∙ ap₂ (λ (points : ℕ) (s : List ℕ). located place (first_fault (bitmap_rules s6 points (value_count s) earlier)))
             (points_6 before start s3 s4 s5 s6 s7 first parts) (representation_6 before start s3 s4 s5 s6 s7 first parts)
             ∙ ap (located place) (parts.bitmap earlier);
       }
@@ -136,7 +136,7 @@ module _ (before : List Placed) (start : ℕ) (s3 s4 s5 s6 s7 : List ℕ) (first
         length_stands = parts.itself_7.length_stands;
         least = parts.itself_7.least;
         follows = ap₂ may_follow parts.itself_6.number_stands parts.itself_7.number_stands;
-        rows_hold = fault_of Stated b (placed_at place s7) 7 parts.itself_7.number_stands
+        rules_hold = fault_of Stated b (placed_at place s7) 7 parts.itself_7.number_stands
             ∙ ap (λ (s : List ℕ). located place (data_fault s s7)) (representation_7 before start s3 s4 s5 s6 s7 first parts)
             ∙ ap (located place) parts.values;
       }

@@ -1,4 +1,4 @@
--- Sections 5, 6 and 7 as they are written pass their rows, and give the numbers that were moved.
+-- Sections 5, 6 and 7 as they are written pass their rules, and give the numbers that were moved.
 use Rattle.std.proofs.Common.{◌≡◌, ℕ, ◌+◌, ◌*◌, ◌^◌, ◌<◌, ◌≤◌, ◌==◌, Bool, true, false, not, Option, Some, None, List, [], ◌∷◌, length, drop, map, pos, nat_lt, replicate, refl, sym, ap, ap₂, ◌∙◌, arith, le-ltb, eq-eqb, ne_eqb, length-drop}
 use Rattle.grib_bits.specs.Bits.{bits}
 use Rattle.grib_bits.specs.Binary32.{ieee_exponent}
@@ -6,16 +6,16 @@ use Rattle.grib_bits.specs.Plain.{plain}
 use Rattle.grib_bits.specs.Octets.{StatesItself}
 use Rattle.grib_bits.specs.Encoding.{section_of, all_octets}
 use Rattle.grib_bits.proofs.Encoding.{num_on-octets_of, StatesItself-section_of}
-use Rattle.grib_base.specs.Rows.{first_fault}
+use Rattle.grib_base.specs.Rules.{first_fault}
 use Rattle.grib_base.proofs.Passing.{none_from_passes}
 use Rattle.grib_base.specs.declared.limits.TheConstants.{MOST_POINTS}
 use Rattle.grib_dyadic.specs.Reference.{IsFinite}
-use Rattle.grib_bitmap.specs.Mask.{bitmap_rows, mask_of, present_count}
+use Rattle.grib_bitmap.specs.Mask.{bitmap_rules, mask_of, present_count}
 use Rattle.grib_base.specs.declared.profile.Profile.TheVariants.{Stated}
 use Rattle.grib_packing.specs.declared.column.Point.TheVariants.{Scaled}
 use Rattle.grib_packing.specs.Packing.{value_count, reference_word, binary_scale, decimal_scale, bit_width}
-use Rattle.grib_packing.specs.Simple.{simple_rows}
-use Rattle.grib_packing.specs.Entries.{packing_rows, packing_fault_under, data_fault, entries_of}
+use Rattle.grib_packing.specs.Simple.{simple_rules}
+use Rattle.grib_packing.specs.Entries.{packing_rules, packing_fault_under, data_fault, entries_of}
 use Rattle.grib_packing.proofs.OpaquePackings.{accepted_stated}
 use Rattle.grib_packing.proofs.Packings.{packing_fault-simple}
 use Rattle.grib1_sections.specs.Bitmap as bitmap1
@@ -60,8 +60,8 @@ module _ (values reference e d width kind : ℕ) (may : MayBeWritten values refe
       let finite = may.finite in
       ap (λ (w : ℕ). ieee_exponent w == 255) reference_stands ∙ ne_eqb (ieee_exponent reference) 255 (λ same. omega (arith, finite, same))
 
-  rows_pass : (points : ℕ) → values ≤ points → first_fault (packing_rows (packing_with values reference e d width kind) points) ≡ None
-  rows_pass points few = none_from_passes (packing_rows (packing_with values reference e d width kind) points) (
+  rules_pass : (points : ℕ) → values ≤ points → first_fault (packing_rules (packing_with values reference e d width kind) points) ≡ None
+  rules_pass points few = none_from_passes (packing_rules (packing_with values reference e d width kind) points) (
     refl,
     (
       refl,
@@ -78,7 +78,7 @@ module _ (values reference e d width kind : ℕ) (may : MayBeWritten values refe
   pub packing_passes : (points : ℕ) → values ≤ points → packing_fault_under Stated (packing_with values reference e d width kind) points ≡ None
   packing_passes points few =
       let s = packing_with values reference e d width kind in
-      accepted_stated Stated s points refl (packing_fault-simple s points (rows_pass points few) refl)
+      accepted_stated Stated s points refl (packing_fault-simple s points (rules_pass points few) refl)
 
   pub packing_itself : StatesItself 5 (packing_with values reference e d width kind)
   packing_itself = StatesItself-section_of 5 (all_octets (Four values ∷ Two 0 ∷ Four reference ∷ Two e ∷ Two d ∷ One width ∷ One kind ∷ [])) (omega arith)
@@ -101,10 +101,10 @@ module _ (points : ℕ) (few : points ≤ MOST_POINTS) where
   mask_stands (Some s) holds earlier = first_bits (drop 6 s) points (omega (arith, holds, length-drop 6 s))
 
   pub bitmap_passes : (s3 : Option (List ℕ)) → HoldsBits s3 points → (values : ℕ) → values ≡ present_count (bitmap1.mask_of s3 points) → (earlier : Option (List Bool))
-      → first_fault (bitmap_rows (section_of 6 (bitmap_octets s3 points)) points values earlier) ≡ None
+      → first_fault (bitmap_rules (section_of 6 (bitmap_octets s3 points)) points values earlier) ≡ None
   bitmap_passes None holds values is earlier =
       let n = present_count (replicate points true) in
-      none_from_passes (bitmap_rows (section_of 6 (bitmap_octets None points)) points values earlier) (
+      none_from_passes (bitmap_rules (section_of 6 (bitmap_octets None points)) points values earlier) (
         refl,
         (refl, (refl, (refl, (refl, (ap not (eq-eqb n values (sym is)), tt))))),
       )
@@ -113,7 +113,7 @@ module _ (points : ℕ) (few : points ≤ MOST_POINTS) where
       let long = front-length (drop 6 s) points (omega (arith, holds, length-drop 6 s)) in
       let n = present_count (mask_of s6 points earlier) in
       let same : n ≡ values = ap present_count (mask_stands (Some s) holds earlier) ∙ sym is in
-      none_from_passes (bitmap_rows s6 points values earlier) (
+      none_from_passes (bitmap_rules s6 points values earlier) (
         le-ltb (length s6) 6 (omega arith),
         (refl, (refl, (le-ltb (8 * length s6) (points + 48) (omega (arith, long)), (refl, (ap not (eq-eqb n values same), tt))))),
       )
@@ -126,7 +126,7 @@ module _ (values reference e d width kind : ℕ) (from : List ℕ) (may : MayBeW
       let s5 = packing_with values reference e d width kind in
       let s7 = section_of 7 (front_octets from (values * width)) in
       let long = front-length from (values * width) within in
-      none_from_passes (simple_rows s5 (length s7)) (
+      none_from_passes (simple_rules s5 (length s7)) (
         ap₂ (λ (n m : ℕ). nat_lt (8 * length s7) (n * m + 40)) (values_stand values reference e d width kind may) (width_stands values reference e d width kind may)
             ∙ le-ltb (8 * length s7) (values * width + 40) (omega (arith, long)),
         tt,

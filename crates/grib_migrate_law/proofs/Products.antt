@@ -1,15 +1,15 @@
--- Sections 1 and 4 as they are written pass their rows.
+-- Sections 1 and 4 as they are written pass their rules.
 use Rattle.std.proofs.Common.{◌≡◌, ℕ, ◌+◌, ◌*◌, ◌<◌, ◌≤◌, Bool, true, false, cond, Option, Some, None, List, [], ◌∷◌, ◌++◌, length, nat_lt, refl, ap, ◌∙◌, arith, le-ltb}
 use Rattle.grib_bits.specs.Octets.{StatesItself}
 use Rattle.grib_bits.specs.Encoding.{section_of, all_octets, missing_1, missing_2}
 use Rattle.grib_bits.proofs.Encoding.{num_on-octets_of, StatesItself-section_of}
-use Rattle.grib_base.specs.Rows.{first_fault}
+use Rattle.grib_base.specs.Rules.{first_fault}
 use Rattle.grib_base.proofs.Passing.{none_from_passes}
 use Rattle.grib_params.specs.declared.row.Target.{Target}
-use Rattle.grib2_sections.specs.Identification.{identification_rows}
-use Rattle.grib2_products.specs.Product.{product_rows, coordinate_count}
+use Rattle.grib2_sections.specs.Identification.{identification_rules}
+use Rattle.grib2_products.specs.Product.{product_rules, coordinate_count}
 use Rattle.grib1_sections.specs.Keys.{key_in}
-use Rattle.grib1_sections.specs.declared.key.Key1.TheVariants.{Process, TimeRange}
+use Rattle.grib_keys.specs.declared.key1.Key1.TheVariants.{Process, TimeRange}
 use Rattle.grib_migrate.specs.declared.labels.Member.{Member}
 use Rattle.grib_migrate.specs.declared.level.Surfaces.{Surfaces}
 use Rattle.grib_migrate.specs.declared.time.Unit.{Unit as UnitOfTime}
@@ -21,7 +21,7 @@ use Rattle.grib_migrate.specs.Products.{identification_numbers, instant_with, te
 
 -- ---- Section 1
 
-pub identification_passes : (target : Target) (s1 : List ℕ) → first_fault (identification_rows (section_of 1 (all_octets (identification_numbers target s1)))) ≡ None
+pub identification_passes : (target : Target) (s1 : List ℕ) → first_fault (identification_rules (section_of 1 (all_octets (identification_numbers target s1)))) ≡ None
 identification_passes target s1 = refl
 
 pub identification_itself : (target : Target) (s1 : List ℕ) → StatesItself 1 (section_of 1 (all_octets (identification_numbers target s1)))
@@ -66,19 +66,19 @@ module _ (target : Target) (s1 : List ℕ) (unit : UnitOfTime) (surfaces : Surfa
         ap (λ (n : ℕ). nat_lt l (size_for interval member + 4 * n)) (count_stands interval member) ∙ le-ltb l (size_for interval member + 4 * count) (omega (arith, known)),
       )
 
-  pub with_passes : (interval : Bool) (member : Option Member) → first_fault (product_rows (product_with interval member target s1 unit surfaces count coordinates) 1) ≡ None
+  pub with_passes : (interval : Bool) (member : Option Member) → first_fault (product_rules (product_with interval member target s1 unit surfaces count coordinates) 1) ≡ None
   with_passes false None =
       let p = passes_by false None 34 (omega arith) (omega arith) in
-      none_from_passes (product_rows (product_with false None target s1 unit surfaces count coordinates) 1) (p.0, (refl, (refl, (p.1, (p.2, tt)))))
+      none_from_passes (product_rules (product_with false None target s1 unit surfaces count coordinates) 1) (p.0, (refl, (refl, (p.1, (p.2, tt)))))
   with_passes true None =
       let p = passes_by true None 46 (omega arith) (omega arith) in
-      none_from_passes (product_rows (product_with true None target s1 unit surfaces count coordinates) 1) (p.0, (refl, (refl, (p.1, (p.2, tt)))))
+      none_from_passes (product_rules (product_with true None target s1 unit surfaces count coordinates) 1) (p.0, (refl, (refl, (p.1, (p.2, tt)))))
   with_passes false (Some member) =
       let p = passes_by false (Some member) 37 (omega arith) (omega arith) in
-      none_from_passes (product_rows (product_with false (Some member) target s1 unit surfaces count coordinates) 1) (p.0, (refl, (refl, (p.1, (p.2, tt)))))
+      none_from_passes (product_rules (product_with false (Some member) target s1 unit surfaces count coordinates) 1) (p.0, (refl, (refl, (p.1, (p.2, tt)))))
   with_passes true (Some member) =
       let p = passes_by true (Some member) 49 (omega arith) (omega arith) in
-      none_from_passes (product_rows (product_with true (Some member) target s1 unit surfaces count coordinates) 1) (p.0, (refl, (refl, (p.1, (p.2, tt)))))
+      none_from_passes (product_rules (product_with true (Some member) target s1 unit surfaces count coordinates) 1) (p.0, (refl, (refl, (p.1, (p.2, tt)))))
 
   pub with_short : (interval : Bool) (member : Option Member) → length (product_with interval member target s1 unit surfaces count coordinates) ≤ 61 + 4 * count
   with_short false None = omega (arith, length_product false None)
@@ -108,9 +108,9 @@ module _ (member : Option Member) (target : Target) (s1 words : List ℕ) (unit 
       ++ (all_octets (member_numbers member) ++ (all_octets (cond (is_interval (key_in s1 TimeRange)) (interval_numbers s1 unit) []) ++ all_octets (coordinate_numbers words)))))
       (same_template member s1)
 
-  pub product_passes : first_fault (product_rows (section_of 4 (product_octets_by member target s1 words unit surfaces)) 1) ≡ None
+  pub product_passes : first_fault (product_rules (section_of 4 (product_octets_by member target s1 words unit surfaces)) 1) ≡ None
   product_passes =
-      ap (λ (s : List ℕ). first_fault (product_rows s 1)) same_product
+      ap (λ (s : List ℕ). first_fault (product_rules s 1)) same_product
       ∙ with_passes target s1 unit surfaces (length words) (all_octets (coordinate_numbers words)) (omega (arith, few)) (length-coordinates words) (is_interval (key_in s1 TimeRange)) member
 
   pub product_short : length (section_of 4 (product_octets_by member target s1 words unit surfaces)) ≤ 1100

@@ -1,15 +1,15 @@
--- A message with one field, with or without a Section 2, whose sections pass their rows, is accepted.
+-- A message with one field, with or without a Section 2, whose sections pass their rules, is accepted.
 use Rattle.std.proofs.Common.{◌≡◌, ℕ, ◌+◌, ◌≤◌, ◌==◌, Bool, true, false, count_by, Option, None, List, [], ◌∷◌, length, refl, ap, ap₂, ◌∙◌, sym, subst, arith, length-append, append-nil}
 use Rattle.std.specs.List.{concat}
 use Rattle.grib_bits.specs.Octets.{StatesItself}
 use Rattle.grib_bits.proofs.Encoding.{num_on-octets_of}
-use Rattle.grib_base.specs.Rows.{first_fault, located}
+use Rattle.grib_base.specs.Rules.{first_fault, located}
 use Rattle.grib_bitmap.specs.Mask.{mask_of}
 use Rattle.grib_packing.specs.Entries.{column_from}
 use Rattle.grib_base.specs.declared.profile.Profile.TheVariants.{Stated}
 use Rattle.grib2_sections.specs.Head.{end_mark}
 use Rattle.grib2_sections.specs.Frame.{Placed, placed_at, section_number, may_follow}
-use Rattle.grib2_sections.specs.Identification.{identification_rows}
+use Rattle.grib2_sections.specs.Identification.{identification_rules}
 use Rattle.grib2_grids.specs.Grid.{grid_points}
 use Rattle.grib2_message.specs.Acceptance.{verdict_2}
 use Rattle.grib2_message.specs.Grammar.{IsSection, AreSections, Grammar2}
@@ -23,11 +23,11 @@ use Rattle.grib2_message.proofs.Whole.{grammar_accepted, sections_alone}
 use Rattle.grib_migrate.specs.Migrated.{message_with}
 use Rattle.grib_migrate_law.proofs.OneField.{FieldPasses, ComesFirst, before_6, all_7, field_follows, not_last, one_last, up_to_last, mask_stands, packing_stands, values_stand, product_stands, grid_stands, front_stands}
 
--- Sections 1 and 2, which no row refuses
+-- Sections 1 and 2, which no rule refuses
 pub record FrontPasses (s1 s2 : List ℕ) : Type 0 where
   pub itself_1 : StatesItself 1 s1
   pub itself_2 : StatesItself 2 s2
-  pub identification : first_fault (identification_rows s1) ≡ None
+  pub identification : first_fault (identification_rules s1) ≡ None
 
 -- the sections, with Section 2 or without it
 abbrev pub sections_with : Bool → List ℕ → List ℕ → List ℕ → List ℕ → List ℕ → List ℕ → List ℕ → List (List ℕ)
@@ -68,7 +68,7 @@ module _ (s1 s2 : List ℕ) (passes : FrontPasses s1 s2) where
     length_stands = passes.itself_1.length_stands;
     least = passes.itself_1.least;
     follows = ap (may_follow 0) passes.itself_1.number_stands;
-    rows_hold = fault_of Stated [] (placed_at 17 s1) 1 passes.itself_1.number_stands ∙ ap (located 17) passes.identification;
+    rules_hold = fault_of Stated [] (placed_at 17 s1) 1 passes.itself_1.number_stands ∙ ap (located 17) passes.identification;
   }
 
   is_2 : IsSection Stated (placed_at 17 s1 ∷ []) (17 + length s1) s2
@@ -76,7 +76,7 @@ module _ (s1 s2 : List ℕ) (passes : FrontPasses s1 s2) where
     length_stands = passes.itself_2.length_stands;
     least = passes.itself_2.least;
     follows = ap₂ may_follow passes.itself_1.number_stands passes.itself_2.number_stands;
-    rows_hold = fault_of Stated (placed_at 17 s1 ∷ []) (placed_at (17 + length s1) s2) 2 passes.itself_2.number_stands;
+    rules_hold = fault_of Stated (placed_at 17 s1 ∷ []) (placed_at (17 + length s1) s2) 2 passes.itself_2.number_stands;
   }
 
 module _ (s1 s2 s3 s4 s5 s6 s7 : List ℕ) (front : FrontPasses s1 s2) (parts : FieldPasses s3 s4 s5 s6 s7) where

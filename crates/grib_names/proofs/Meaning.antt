@@ -9,6 +9,7 @@ use Rattle.std.specs.Ordering.{is_eq, nat_cmp, ordering_then}
 use Rattle.std.specs.Cmp.{IsTotalOrder, nat_cmp_total, on_total, ranked, then_total}
 use Rattle.std.specs.Cmp.Lexicographic.{bytes_decides}
 use Rattle.std.specs.BTreeMap.{insert_entry}
+use Rattle.std.proofs.Math.Bool.{or-true}
 use Rattle.grib_params.specs.Fields.{Fields, records_of}
 use Rattle.grib_params.specs.declared.table.TheConstants.{MOST_OCTETS}
 use Rattle.grib_params.proofs.Meaning.{IsStep, from_records, put}
@@ -73,11 +74,6 @@ of_text text table q e = by (nat_lt MOST_OCTETS (length text)) e
 abbrev IsUnique : NameEntries → Type 0
 IsUnique entries = (a b : Numbers) (name : Name) → name_at entries a ≡ Some name → name_at entries b ≡ Some name → a ≡ b
 
--- a name that is found is there
-or_true : (b : Bool) → (b || true) ≡ true
-or_true true = refl
-or_true false = refl
-
 found : (entries : NameEntries) (a : Numbers) (name : Name) → name_at entries a ≡ Some name → has_name entries name ≡ true
 found [] a name e = cc e
 found (entry ∷ rest) a name e = by (is_eq (numbers_cmp a entry.0)) e (found rest a name)
@@ -87,7 +83,7 @@ found (entry ∷ rest) a name e = by (is_eq (numbers_cmp a entry.0)) e (found re
     by true e later =
         let same : entry.1 ≡ name = cc in
         ap (λ (b : Bool). b || has_name rest name) ((bytes_decides entry.1 name).1 same)
-    by false e later = ap (λ (b : Bool). bytes_eq entry.1 name || b) (later e) ∙ or_true (bytes_eq entry.1 name)
+    by false e later = ap (λ (b : Bool). bytes_eq entry.1 name || b) (later e) ∙ or-true (bytes_eq entry.1 name)
 
 new_name : (entries : NameEntries) (entry : NameEntry) → repeats entries entry ≡ false → has_name entries entry.1 ≡ false
 new_name entries entry e = rw (new_numbers entries entry e) at e

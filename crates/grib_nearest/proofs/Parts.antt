@@ -1,8 +1,9 @@
 -- Sums of two parts, their signs and sizes.
-use Rattle.std.proofs.Common.{◌≡◌, ◌≢◌, ℕ, zero, suc, ◌+◌, ◌*◌, ◌^◌, ◌<◌, ◌≤◌, ℤ, pos, negsuc, neg_ℤ, ◌+ℤ◌, ◌*ℤ◌, nat_abs, FitsSigned, refl, sym, ◌∙◌, arith}
+use Rattle.std.proofs.Common.{◌≡◌, ◌≢◌, ℕ, zero, suc, ◌*◌, ◌^◌, ◌<◌, ◌≤◌, ℤ, pos, negsuc, neg_ℤ, ◌+ℤ◌, ◌*ℤ◌, nat_abs, FitsSigned, refl, sym, ◌∙◌, arith}
 use Rattle.std.proofs.Math.Nat.{mul-le-mul_right, mul-le-mul, pow-le-pow_right}
 use Rattle.std.proofs.lemmas.Int.{ints, unsigned_abs-mul, fits_signed_from_abs}
 use Rattle.std.specs.Int.{w128, is_negative}
+use Rattle.grib_bits.proofs.Arithmetic.{nat_abs-sum}
 use Rattle.grib_nearest.proofs.Numbers.{negative_is, not_negative_is}
 
 -- a first part that counts more than the second decides the sign
@@ -42,11 +43,8 @@ near_size h gap few near =
 pub near_fits : (h : ℤ) (gap : ℕ) → nat_abs h ≤ 2 ^ 63 → gap < 64 → FitsSigned w128 (h *ℤ pos (2 ^ gap))
 near_fits h gap few near = fits_signed_from_abs w128 _ (let size = near_size h gap few near in omega (arith, size))
 
-abs_sum : (z l : ℤ) → nat_abs (z +ℤ l) ≤ nat_abs z + nat_abs l
-abs_sum z l = omega (arith, ints)
-
 pub near_sum_fits : (h l : ℤ) (gap : ℕ) → nat_abs h ≤ 2 ^ 63 → nat_abs l ≤ 2 ^ 63 → gap < 64 → FitsSigned w128 ((h *ℤ pos (2 ^ gap)) +ℤ l)
-near_sum_fits h l gap few few' near = fits_signed_from_abs w128 _ (omega (arith, near_size h gap few near, few', abs_sum (h *ℤ pos (2 ^ gap)) l))
+near_sum_fits h l gap few few' near = fits_signed_from_abs w128 _ (omega (arith, near_size h gap few near, few', nat_abs-sum (h *ℤ pos (2 ^ gap)) l))
 
 -- products with powers of ten
 tens_few : (tens : ℕ) → tens ≤ 19 → 10 ^ tens ≤ 10 ^ 19

@@ -11,10 +11,10 @@ use Rattle.grib_coding.specs.Coding.{block_count, identifier_width}
 use Rattle.grib_coding.specs.Items.{Run}
 use Rattle.grib_coding.specs.Numbers.{Told}
 use Rattle.grib_coding.specs.Reading.{coded_of}
-use Rattle.grib_choice.specs.declared.choice.Choice.TheVariants.{Plain}
-use Rattle.grib_choice.specs.Runs.{run_room, run_number}
-use Rattle.grib_block_writing.specs.Blocks.{all_told, blocks_of, code_of, codes_of, is_zero, pieces, reference_of, zero_blocks}
-use Rattle.grib_block_writing.specs.Written.{chosen_item, coded_bits, first_item, items_of, number_of, reference_bits, run_length, skip_of, written}
+use Rattle.grib_coding.specs.declared.choice.Choice.TheVariants.{Plain}
+use Rattle.grib_coding.specs.Runs.{run_room, run_number}
+use Rattle.grib_coding.specs.Blocks.{all_told, blocks_of, code_of, codes_of, is_zero, pieces, reference_of, zero_blocks}
+use Rattle.grib_coding.specs.Written.{chosen_item, coded_bits, first_item, items_of, number_of, reference_bits, run_length, skip_of, written}
 use Rattle.grib_block_writing.proofs.Heads.{most_width}
 use Rattle.grib_block_writing.proofs.Least.{least_block}
 use Rattle.grib_block_writing.proofs.Lengths.{first_zero, length-coded, length-run, skip_few}

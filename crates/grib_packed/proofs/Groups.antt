@@ -7,9 +7,9 @@ use Rattle.grib_base.specs.declared.code.Code.{Code}
 use Rattle.grib_packing.specs.declared.layout.Layout.{Layout}
 use Rattle.grib_packing.specs.Groupings.{IsGrouping, joined, runs, reference_bits_of, width_bits_of, width_of}
 use Rattle.grib_packing.specs.Packed.{group_fields, group_parts}
-use Rattle.grib_packing.specs.Span.{IsBelow, IsTold}
-use Rattle.grib_packing.proofs.Bounds.{all_below, width-few}
-use Rattle.grib_packing.proofs.Spans.{small_run}
+use Rattle.grib_codes.specs.Span.{IsBelow, IsTold}
+use Rattle.grib_codes.proofs.Bounds.{all_below, width-few}
+use Rattle.grib_codes.proofs.Spans.{small_run}
 use Rattle.grib_groups.specs.Encoding.{LaysOut}
 use Rattle.grib_groups.proofs.Back.{length-group}
 use Rattle.grib_complex.proofs.GroupByGroup.{few_groups, references_few, widths_few, parts_octets}

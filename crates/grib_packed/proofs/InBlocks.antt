@@ -10,7 +10,7 @@ use Rattle.grib_bits.specs.Encoding.{octets_of, section_of}
 use Rattle.grib_bits.proofs.Encoding.{All-octets_of, num_on-octets_of}
 use Rattle.grib_base.specs.declared.limits.TheConstants.{MOST_POINTS}
 use Rattle.grib_coding.specs.declared.coding.Coding.{Coding}
-use Rattle.grib_block_writing.specs.Written.{written}
+use Rattle.grib_coding.specs.Written.{written}
 use Rattle.grib_packing.specs.declared.column.Point.{Point}
 use Rattle.grib_packing.specs.declared.column.Column.{Column}
 use Rattle.grib_packing.specs.Groupings.{greatest}

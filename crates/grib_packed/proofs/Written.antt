@@ -14,14 +14,14 @@ use Rattle.grib_packing.specs.Differences.{Descriptors, descriptors_of, differen
 use Rattle.grib_packing.specs.Groupings.{Chosen, greatest, header_bits, reference_bits_of, width_bits_of, width_of}
 use Rattle.grib_packing.specs.Misfits.{Target, DifferenceRange, ToSimple, ToComplex, ToSpatial, are_differences_out, first_misfit, is_missing, management_of, scaled_numbers}
 use Rattle.grib_packing.specs.Packed.{HasLayout, HasNumbers, IsComplex, IsSimple, IsSpatial, descriptor_fields, descriptor_size, fields, present_bits, simple_numbers, simple_width, target_codes}
-use Rattle.grib_packing.specs.Span.{IsTold}
-use Rattle.grib_packing.proofs.Bounds.{reference_bits-few, width_bits-few}
+use Rattle.grib_codes.specs.Span.{IsTold}
+use Rattle.grib_codes.proofs.Bounds.{reference_bits-few, width_bits-few}
 use Rattle.grib_packing.proofs.Fields.{length-fields}
 use Rattle.grib_packing.specs.Sections.{number_octets}
 use Rattle.grib_packing.specs.Written.{MayBePacked}
 use Rattle.grib_simple.proofs.Fitting.{few_numbers, width_few}
 use Rattle.grib_complex.specs.Written.{layout_octets}
-use Rattle.grib_complex.proofs.CodeByCode.{length-placed, management-few, plain_told}
+use Rattle.grib_codes.proofs.Reserved.{length-placed, management-few, plain_told}
 use Rattle.grib_complex.proofs.Differing.{length-codes, length-descriptors, spatial_told}
 use Rattle.grib_complex.proofs.FirstValues.{size_few}
 use Rattle.grib_complex.proofs.GroupByGroup.{few_groups}

@@ -1,12 +1,7 @@
-pub mod Spans
 pub mod Digits
-pub mod Bounds
 pub mod Left
 pub mod Fields
 pub mod Sections
 pub mod Packings
 pub mod OpaquePackings
 pub mod Masks
-pub mod Below
-pub mod Ends
-pub mod Marked

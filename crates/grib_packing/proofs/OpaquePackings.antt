@@ -5,9 +5,9 @@ use Rattle.grib_base.specs.declared.fault.Fault.{Fault}
 use Rattle.grib_base.specs.declared.fault.Reason.TheVariants.{SectionLength}
 use Rattle.grib_base.specs.declared.profile.Profile.{Profile}
 use Rattle.grib_base.specs.declared.profile.Profile.TheVariants.{Stated, Open}
-use Rattle.grib_base.specs.Rows.{Row, choose, first_fault, or_then, refusal}
+use Rattle.grib_base.specs.Rules.{Rule, choose, first_fault, or_then, refusal}
 use Rattle.grib_base.proofs.Passing.{passes_from_none}
-use Rattle.grib_packing.specs.Entries.{PackingTemplate, simple_packing, complex_packing, coded_packing, unlisted_packing, is_packing, packing_of, is_opaque_packing, is_stated_packing, unstated_rows, opaque_packing_rows, packing_rows, packing_fault, packing_fault_under, data_fault, entries_of}
+use Rattle.grib_packing.specs.Entries.{PackingTemplate, simple_packing, complex_packing, coded_packing, unlisted_packing, is_packing, packing_of, is_opaque_packing, is_stated_packing, unstated_rules, opaque_packing_rules, packing_rules, packing_fault, packing_fault_under, data_fault, entries_of}
 use Rattle.grib_packing.specs.Packing.{packing_template, value_count}
 use Rattle.grib_packing.proofs.Packings.{packing_passes, packing_shared}
 
@@ -35,20 +35,20 @@ module _ (s s7 : List ℕ) (opaque : is_opaque_packing s ≡ true) where
 
 -- ---- under a profile
 
--- a Section 5 that no row refuses has a packing of the list
+-- a Section 5 that no rule refuses has a packing of the list
 pub accepted_known : (s : List ℕ) (points : ℕ) → packing_fault s points ≡ None → is_opaque_packing s ≡ false
-accepted_known s points none = (passes_from_none (packing_rows s points) (packing_shared s points none)).1.0
+accepted_known s points none = (passes_from_none (packing_rules s points) (packing_shared s points none)).1.0
 
--- such a packing has the same rows under the open profile,
+-- such a packing has the same rules under the open profile,
 pub known_open : (s : List ℕ) (points : ℕ) → is_opaque_packing s ≡ false → packing_fault_under Open s points ≡ packing_fault s points
-known_open s points known = ap (λ (b : Bool). choose b (λ _. first_fault (opaque_packing_rows s points)) (λ _. packing_fault s points)) known
+known_open s points known = ap (λ (b : Bool). choose b (λ _. first_fault (opaque_packing_rules s points)) (λ _. packing_fault s points)) known
 
 -- and one that the stated profile has, under each
 stated_own : (s : List ℕ) (points : ℕ) → is_stated_packing s ≡ true → packing_fault_under Stated s points ≡ packing_fault s points
-stated_own s points stated = ap (λ (b : Bool). choose b (λ _. packing_fault s points) (λ _. first_fault (unstated_rows s))) stated
+stated_own s points stated = ap (λ (b : Bool). choose b (λ _. packing_fault s points) (λ _. first_fault (unstated_rules s))) stated
 
-unstated_own : (s : List ℕ) (points : ℕ) → is_stated_packing s ≡ false → packing_fault_under Stated s points ≡ first_fault (unstated_rows s)
-unstated_own s points unstated = ap (λ (b : Bool). choose b (λ _. packing_fault s points) (λ _. first_fault (unstated_rows s))) unstated
+unstated_own : (s : List ℕ) (points : ℕ) → is_stated_packing s ≡ false → packing_fault_under Stated s points ≡ first_fault (unstated_rules s)
+unstated_own s points unstated = ap (λ (b : Bool). choose b (λ _. packing_fault s points) (λ _. first_fault (unstated_rules s))) unstated
 
 -- the stated profile has packings of the list alone
 pub stated_known : (s : List ℕ) → is_stated_packing s ≡ true → is_opaque_packing s ≡ false
@@ -62,17 +62,17 @@ stated_under Stated s points stated = stated_own s points stated
 stated_under Open s points stated = known_open s points (stated_known s stated)
 
 -- a section that the stated profile does not have is refused
-some_refuses : (s : List ℕ) → first_fault (unstated_rows s) ≡ None → ⊥
-some_refuses s none = let rows = passes_from_none (unstated_rows s) none in let never : true ≡ false = rows.1.0 in cc
+some_refuses : (s : List ℕ) → first_fault (unstated_rules s) ≡ None → ⊥
+some_refuses s none = let rules = passes_from_none (unstated_rules s) none in let never : true ≡ false = rules.1.0 in cc
 
--- what no row refuses is accepted under the open profile, and under the stated one where it has the packing
+-- what no rule refuses is accepted under the open profile, and under the stated one where it has the packing
 pub accepted_open : (s : List ℕ) (points : ℕ) → packing_fault s points ≡ None → packing_fault_under Open s points ≡ None
 accepted_open s points none = known_open s points (accepted_known s points none) ∙ none
 
 pub accepted_stated : (profile : Profile) (s : List ℕ) (points : ℕ) → is_stated_packing s ≡ true → packing_fault s points ≡ None → packing_fault_under profile s points ≡ None
 accepted_stated profile s points stated none = stated_under profile s points stated ∙ none
 
--- what the stated profile accepts no row refuses
+-- what the stated profile accepts no rule refuses
 pub stated_accepts : (s : List ℕ) (points : ℕ) → packing_fault_under Stated s points ≡ None → (is_stated_packing s ≡ true) × (packing_fault s points ≡ None)
 stated_accepts s points none = by_choice (is_stated_packing s) refl where
   by_choice : (b : Bool) → is_stated_packing s ≡ b → (is_stated_packing s ≡ true) × (packing_fault s points ≡ None)
@@ -89,22 +89,22 @@ pub opened_under : (profile : Profile) (s : List ℕ) (points : ℕ) → packing
 opened_under Stated s points none = none
 opened_under Open s points none = accepted_open s points (stated_accepts s points none).1
 
--- an opaque packing has its own rows under the open profile
-pub opaque_under : (s : List ℕ) (points : ℕ) → is_opaque_packing s ≡ true → packing_fault_under Open s points ≡ first_fault (opaque_packing_rows s points)
-opaque_under s points opaque = ap (λ (b : Bool). choose b (λ _. first_fault (opaque_packing_rows s points)) (λ _. packing_fault s points)) opaque
+-- an opaque packing has its own rules under the open profile
+pub opaque_under : (s : List ℕ) (points : ℕ) → is_opaque_packing s ≡ true → packing_fault_under Open s points ≡ first_fault (opaque_packing_rules s points)
+opaque_under s points opaque = ap (λ (b : Bool). choose b (λ _. first_fault (opaque_packing_rules s points)) (λ _. packing_fault s points)) opaque
 
-same_first : (b : Bool) (fault : Fault) (rest more : Option Fault) (later : Unit {0} → List Row) → b ≡ true → cond b (Some fault) rest ≡ or_then (cond b (Some fault) more) later
+same_first : (b : Bool) (fault : Fault) (rest more : Option Fault) (later : Unit {0} → List Rule) → b ≡ true → cond b (Some fault) rest ≡ or_then (cond b (Some fault) more) later
 same_first true fault rest more later is = refl
 same_first false fault rest more later is = cc
 
 -- a section that is too short for a template is refused alike
 pub short_under : (profile : Profile) (s : List ℕ) (points : ℕ) → length s < 11 → packing_fault_under profile s points ≡ packing_fault s points
 short_under Stated s points short = by_choice (is_stated_packing s) where
-  by_choice : (b : Bool) → choose b (λ _. packing_fault s points) (λ _. first_fault (unstated_rows s)) ≡ packing_fault s points
+  by_choice : (b : Bool) → choose b (λ _. packing_fault s points) (λ _. first_fault (unstated_rules s)) ≡ packing_fault s points
   by_choice true = refl
   by_choice false = same_first (nat_lt (length s) 11) (refusal 1 SectionLength (length s)) _ _ _ (lt-ltb (length s) 11 short)
 short_under Open s points short = by_choice (is_opaque_packing s) where
-  by_choice : (b : Bool) → choose b (λ _. first_fault (opaque_packing_rows s points)) (λ _. packing_fault s points) ≡ packing_fault s points
+  by_choice : (b : Bool) → choose b (λ _. first_fault (opaque_packing_rules s points)) (λ _. packing_fault s points) ≡ packing_fault s points
   by_choice true = same_first (nat_lt (length s) 11) (refusal 1 SectionLength (length s)) _ _ _ (lt-ltb (length s) 11 short)
   by_choice false = refl
 
@@ -113,10 +113,10 @@ pub record PassesUnder (s : List ℕ) (points : ℕ) : Type 0 where
   pub long : 11 ≤ length s
   pub few : value_count s ≤ points
 
-opaque_passes : (s : List ℕ) (points : ℕ) → first_fault (opaque_packing_rows s points) ≡ None → PassesUnder s points
+opaque_passes : (s : List ℕ) (points : ℕ) → first_fault (opaque_packing_rules s points) ≡ None → PassesUnder s points
 opaque_passes s points none =
-    let rows = passes_from_none (opaque_packing_rows s points) none in
-    record { long = ltb-false (length s) 11 rows.0; few = ltb-false points (value_count s) rows.1.0 }
+    let rules = passes_from_none (opaque_packing_rules s points) none in
+    record { long = ltb-false (length s) 11 rules.0; few = ltb-false points (value_count s) rules.1.0 }
 
 known_passes : (s : List ℕ) (points : ℕ) → packing_fault s points ≡ None → PassesUnder s points
 known_passes s points none =
@@ -126,6 +126,6 @@ known_passes s points none =
 pub passes_under : (profile : Profile) (s : List ℕ) (points : ℕ) → packing_fault_under profile s points ≡ None → PassesUnder s points
 passes_under Stated s points none = known_passes s points (stated_accepts s points none).1
 passes_under Open s points none = by_choice (is_opaque_packing s) none where
-  by_choice : (b : Bool) → choose b (λ _. first_fault (opaque_packing_rows s points)) (λ _. packing_fault s points) ≡ None → PassesUnder s points
+  by_choice : (b : Bool) → choose b (λ _. first_fault (opaque_packing_rules s points)) (λ _. packing_fault s points) ≡ None → PassesUnder s points
   by_choice true e = opaque_passes s points e
   by_choice false e = known_passes s points e

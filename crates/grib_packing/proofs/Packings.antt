@@ -1,15 +1,15 @@
--- Lemmas on the list of the packings: what it says of a section by its template, and of a Section 5 that no row refuses.
+-- Lemmas on the list of the packings: what it says of a section by its template, and of a Section 5 that no rule refuses.
 use Rattle.std.proofs.Common.{◌≡◌, ℕ, ◌≤◌, ◌⊎◌, inl, inr, Bool, true, false, ◌||◌, ◌==◌, cond, unwrap_or, Option, Some, None, List, length, refl, sym, ap, ◌∙◌, arith, subst, eqb-true}
 use Rattle.std.proofs.lemmas.Bool.{ltb-false, not-false}
 use Rattle.grib_bits.specs.Binary32.{ieee_exponent}
 use Rattle.grib_base.specs.declared.fault.Fault.{Fault}
-use Rattle.grib_base.specs.Rows.{Row, first_fault, or_then}
+use Rattle.grib_base.specs.Rules.{Rule, first_fault, or_then}
 use Rattle.grib_base.proofs.Passing.{passes_from_none}
-use Rattle.grib_packing.specs.Complex.{complex_rows}
-use Rattle.grib_packing.specs.Coded.{coded_rows, coded_data_fault, coded_entries}
-use Rattle.grib_packing.specs.Entries.{PackingTemplate, simple_packing, complex_packing, coded_packing, unlisted_packing, is_packing, packing_of, own_packing, packing_rows, packing_fault, data_fault, entries_of, complex_data_fault, complex_entries}
+use Rattle.grib_packing.specs.Complex.{complex_rules}
+use Rattle.grib_packing.specs.Coded.{coded_rules, coded_data_fault, coded_entries}
+use Rattle.grib_packing.specs.Entries.{PackingTemplate, simple_packing, complex_packing, coded_packing, unlisted_packing, is_packing, packing_of, own_packing, packing_rules, packing_fault, data_fault, entries_of, complex_data_fault, complex_entries}
 use Rattle.grib_packing.specs.Packing.{packing_template, value_count, reference_word, bit_width}
-use Rattle.grib_packing.specs.Simple.{simple_rows, simple_entries}
+use Rattle.grib_packing.specs.Simple.{simple_rules, simple_entries}
 
 -- what holds of each packing and of a template that is not in the list holds of the packing of a template
 by_tests : (P : PackingTemplate → Type 0) (t : ℕ) (a b c d : Bool) → P simple_packing → P (complex_packing 2 47) → P (complex_packing 3 49) → P coded_packing → P (unlisted_packing t)
@@ -26,7 +26,7 @@ each_packing P t simple two three coded unlisted = by_tests P t (0 == t) (2 == t
 -- ---- simple packing
 
 module _ (s5 s7 : List ℕ) (simple : packing_template s5 ≡ 0) where
-  pub data_fault-simple : data_fault s5 s7 ≡ first_fault (simple_rows s5 (length s7))
+  pub data_fault-simple : data_fault s5 s7 ≡ first_fault (simple_rules s5 (length s7))
   data_fault-simple = ap (λ (t : ℕ). (packing_of t).fault s5 s7) simple
 
   pub entries_of-simple : entries_of s5 s7 ≡ simple_entries s5 s7
@@ -69,23 +69,23 @@ module _ (s5 s7 : List ℕ) (coded : packing_template s5 ≡ 42) where
 pub most-coded : (t : ℕ) → t ≡ 42 → (packing_of t).most ≡ 32
 most-coded t coded = ap (λ (n : ℕ). (packing_of n).most) coded
 
--- ---- Section 5 where the rows pass that all templates share
+-- ---- Section 5 where the rules pass that all templates share
 
-module _ (s : List ℕ) (points : ℕ) (shared : first_fault (packing_rows s points) ≡ None) where
-  own_rows : packing_fault s points ≡ first_fault ((own_packing s).rows s)
-  own_rows = ap (λ (f : Option Fault). or_then f (λ _. (own_packing s).rows s)) shared
+module _ (s : List ℕ) (points : ℕ) (shared : first_fault (packing_rules s points) ≡ None) where
+  own_rules : packing_fault s points ≡ first_fault ((own_packing s).rules s)
+  own_rules = ap (λ (f : Option Fault). or_then f (λ _. (own_packing s).rules s)) shared
 
   pub packing_fault-simple : packing_template s ≡ 0 → packing_fault s points ≡ None
-  packing_fault-simple simple = own_rows ∙ ap (λ (t : ℕ). first_fault ((packing_of t).rows s)) simple
+  packing_fault-simple simple = own_rules ∙ ap (λ (t : ℕ). first_fault ((packing_of t).rules s)) simple
 
-  pub packing_fault-complex : IsComplexTemplate (packing_template s) → packing_fault s points ≡ first_fault (complex_rows s)
+  pub packing_fault-complex : IsComplexTemplate (packing_template s) → packing_fault s points ≡ first_fault (complex_rules s)
   packing_fault-complex complex =
-      own_rows ∙ by_complex (λ t. first_fault ((packing_of t).rows s)) (first_fault (complex_rows s)) (packing_template s) refl refl complex
+      own_rules ∙ by_complex (λ t. first_fault ((packing_of t).rules s)) (first_fault (complex_rules s)) (packing_template s) refl refl complex
 
-  pub packing_fault-coded : packing_template s ≡ 42 → packing_fault s points ≡ first_fault (coded_rows s)
-  packing_fault-coded coded = own_rows ∙ ap (λ (t : ℕ). first_fault ((packing_of t).rows s)) coded
+  pub packing_fault-coded : packing_template s ≡ 42 → packing_fault s points ≡ first_fault (coded_rules s)
+  packing_fault-coded coded = own_rules ∙ ap (λ (t : ℕ). first_fault ((packing_of t).rules s)) coded
 
--- ---- a Section 5 that no row refuses
+-- ---- a Section 5 that no rule refuses
 
 or_true : (a b : Bool) → (a || b) ≡ true → (a ≡ true) ⊎ (b ≡ true)
 or_true true b e = inl refl
@@ -114,7 +114,7 @@ least-some t (inr (inl (inl is))) = subst (λ (n : ℕ). 21 ≤ (packing_of n).l
 least-some t (inr (inl (inr is))) = subst (λ (n : ℕ). 21 ≤ (packing_of n).least) (sym is) (omega arith)
 least-some t (inr (inr is)) = subst (λ (n : ℕ). 21 ≤ (packing_of n).least) (sym is) (omega arith)
 
--- what the rows say that all templates share
+-- what the rules say that all templates share
 pub record PackingPasses (s : List ℕ) (points : ℕ) : Type 0 where
   pub template : IsListed (packing_template s)
   pub least : (own_packing s).least ≤ length s
@@ -123,25 +123,25 @@ pub record PackingPasses (s : List ℕ) (points : ℕ) : Type 0 where
   pub finite : (ieee_exponent (reference_word s) == 255) ≡ false
   pub narrow : bit_width s ≤ (own_packing s).most
 
-pub shared_passes : (s : List ℕ) (points : ℕ) → first_fault (packing_rows s points) ≡ None → PackingPasses s points
+pub shared_passes : (s : List ℕ) (points : ℕ) → first_fault (packing_rules s points) ≡ None → PackingPasses s points
 shared_passes s points none =
-    let rows = passes_from_none (packing_rows s points) none in
-    let template = known_packing (packing_template s) (not-false (is_packing (packing_template s)) rows.1.0) in
-    let least = ltb-false (length s) (own_packing s).least rows.1.1.0 in
+    let rules = passes_from_none (packing_rules s points) none in
+    let template = known_packing (packing_template s) (not-false (is_packing (packing_template s)) rules.1.0) in
+    let least = ltb-false (length s) (own_packing s).least rules.1.1.0 in
     let some = least-some (packing_template s) template in
     record {
       template = template;
       least = least;
       long = omega (arith, least, some);
-      few = ltb-false points (value_count s) rows.1.1.1.0;
-      finite = rows.1.1.1.1.0;
-      narrow = ltb-false (own_packing s).most (bit_width s) rows.1.1.1.1.1.0;
+      few = ltb-false points (value_count s) rules.1.1.1.0;
+      finite = rules.1.1.1.1.0;
+      narrow = ltb-false (own_packing s).most (bit_width s) rules.1.1.1.1.1.0;
     }
 
--- and a section that no row refuses passes them
-pub packing_shared : (s : List ℕ) (points : ℕ) → packing_fault s points ≡ None → first_fault (packing_rows s points) ≡ None
-packing_shared s points none = first_none (first_fault (packing_rows s points)) (λ _. (own_packing s).rows s) none where
-  first_none : (fault : Option Fault) (later : Unit {0} → List Row) → or_then fault later ≡ None → fault ≡ None
+-- and a section that no rule refuses passes them
+pub packing_shared : (s : List ℕ) (points : ℕ) → packing_fault s points ≡ None → first_fault (packing_rules s points) ≡ None
+packing_shared s points none = first_none (first_fault (packing_rules s points)) (λ _. (own_packing s).rules s) none where
+  first_none : (fault : Option Fault) (later : Unit {0} → List Rule) → or_then fault later ≡ None → fault ≡ None
   first_none (Some fault) later none = absurd (cc)
   first_none None later none = refl
 

@@ -9,7 +9,8 @@ use Rattle.grib_bits.proofs.OctetBits.{AreOctets, length-bits, take-bits, same_f
 use Rattle.grib_bits.proofs.OctetNumbers.{AreOctets-take}
 use Rattle.grib_bits.specs.Encoding.{octets_of}
 use Rattle.grib_bits.proofs.Encoding.{All-octets_of, num_on-octets_of}
-use Rattle.grib_packing.specs.Packed.{padded, HasContents}
+use Rattle.grib_packing.specs.declared.column.Column.{Column}
+use Rattle.grib_packing.specs.Packed.{padded, HasContents, HasNumbers}
 use Rattle.grib_packing.proofs.Fields.{segment}
 
 pub AreOctets-all : (s : List ℕ) → All (λ octet. octet < 256) s → AreOctets s
@@ -55,3 +56,18 @@ has_contents s number n contents each small short long is =
       are_octets = each;
       contents_stand = segment s (bits head) (padded contents) 5 is (length-bits head);
     }
+
+-- the numbers of Section 5 are those of each column with this R, E and D
+pub same_numbers : (s5 : List ℕ) (head column : Column) (values template b kind : ℕ) → column.reference ≡ head.reference → column.e ≡ head.e → column.d ≡ head.d
+    → HasNumbers s5 head values template b kind → HasNumbers s5 column values template b kind
+same_numbers s5 head column values template b kind same_reference same_e same_d numbers = record {
+  itself = numbers.itself;
+  are_octets = numbers.are_octets;
+  values_stand = numbers.values_stand;
+  template_stands = numbers.template_stands;
+  reference_stands = numbers.reference_stands ∙ sym same_reference;
+  binary_scale_stands = numbers.binary_scale_stands ∙ sym same_e;
+  decimal_scale_stands = numbers.decimal_scale_stands ∙ sym same_d;
+  bit_width_stands = numbers.bit_width_stands;
+  kind_stands = numbers.kind_stands;
+}

@@ -4,7 +4,7 @@ use Rattle.grib_bits.specs.Bits.{bits}
 use Rattle.grib_bits.specs.Octets.{octets}
 use Rattle.grib_base.specs.declared.fault.Fault.{Fault}
 use Rattle.grib_base.specs.declared.fault.Reason.TheVariants.{Ccsds, DataTooShort, BlockCode, ScaledRange}
-use Rattle.grib_base.specs.Rows.{Row, row, refusal, choose}
+use Rattle.grib_base.specs.Rules.{Rule, rule, refusal, choose}
 use Rattle.grib_coding.specs.declared.coding.Coding.{Coding}
 use Rattle.grib_coding.specs.declared.fault.BlockFault.{BlockFault}
 use Rattle.grib_coding.specs.declared.fault.BlockFault.TheVariants.{Short, Block, Value}
@@ -36,20 +36,20 @@ are_flags_refused c = has_flag c.flags 1 || (has_flag c.flags 64 || (has_flag c.
 abbrev pub is_block : ℕ → Bool
 is_block j = (j == 8) || ((j == 16) || ((j == 32) || (j == 64)))
 
--- rows S5.14 to S5.16
-abbrev pub coded_rows : List ℕ → List Row
-coded_rows s =
+-- rules S5.14 to S5.16
+abbrev pub coded_rules : List ℕ → List Rule
+coded_rules s =
     let c = coding_of s in
-    row (is_coded s && are_flags_refused c) 22 Ccsds c.flags  -- S5.14
-    ∷ row (is_coded s && not (is_block c.block)) 23 Ccsds c.block  -- S5.15
-    ∷ row (is_coded s && ((c.interval == 0) || nat_lt 4096 c.interval)) 24 Ccsds c.interval  -- S5.16
+    rule (is_coded s && are_flags_refused c) 22 Ccsds c.flags  -- S5.14
+    ∷ rule (is_coded s && not (is_block c.block)) 23 Ccsds c.block  -- S5.15
+    ∷ rule (is_coded s && ((c.interval == 0) || nat_lt 4096 c.interval)) 24 Ccsds c.interval  -- S5.16
     ∷ []
 
 -- what the bits from octet 6 of Section 7 on tell of the values
 abbrev pub decoded_of : List ℕ → List ℕ → Decoded
 decoded_of s5 s7 = decoded (coding_of s5) (value_count s5) (bits (drop 5 s7))
 
--- the refusal for the first item that is at fault, of a Section 7 of l octets: rows S7.8 to S7.11
+-- the refusal for the first item that is at fault, of a Section 7 of l octets: rules S7.8 to S7.11
 abbrev pub block_refusal : ℕ → Option BlockFault → Option Fault
 block_refusal l None = None
 block_refusal l (Some Short) = Some (refusal 1 DataTooShort l)  -- S7.8

@@ -3,7 +3,7 @@
 use Rattle.std.specs.Prelude.{ℕ, ◌+◌, ◌*◌, not, cond, ◌&&◌, List, [], ◌∷◌, nat_lt, ◌==◌}
 use Rattle.grib_bits.specs.Octets.{octets}
 use Rattle.grib_base.specs.declared.fault.Reason.TheVariants.{MissingManagement, GroupCount, GroupWidth, GroupShape, DifferenceOrder, ExtraOctets}
-use Rattle.grib_base.specs.Rows.{Row, row}
+use Rattle.grib_base.specs.Rules.{Rule, rule}
 use Rattle.grib_packing.specs.declared.layout.Layout.{Layout}
 use Rattle.grib_packing.specs.Packing.{packing_template, value_count, bit_width}
 
@@ -32,16 +32,16 @@ extra_octets s = cond (packing_template s == 3) (octets s 49 49) 0
 abbrev pub descriptor_octets : List ℕ → ℕ
 descriptor_octets s = (difference_order s + 1) * extra_octets s
 
--- rows S5.7 to S5.13, of templates 5.2 and 5.3
-abbrev pub complex_rows : List ℕ → List Row
-complex_rows s =
+-- rules S5.7 to S5.13, of templates 5.2 and 5.3
+abbrev pub complex_rules : List ℕ → List Rule
+complex_rules s =
     let layout = layout_of s in
     let spatial = packing_template s == 3 in
-    row (nat_lt 2 layout.management) 23 MissingManagement layout.management  -- S5.7
-    ∷ row (nat_lt (value_count s) layout.groups) 32 GroupCount layout.groups  -- S5.8
-    ∷ row (nat_lt 32 layout.width_reference) 36 GroupWidth layout.width_reference  -- S5.9
-    ∷ row (nat_lt 32 layout.width_bits) 37 GroupWidth layout.width_bits  -- S5.10
-    ∷ row (nat_lt 32 layout.length_bits) 47 GroupShape layout.length_bits  -- S5.11
-    ∷ row (spatial && not (difference_order s == 1) && not (difference_order s == 2)) 48 DifferenceOrder (difference_order s)  -- S5.12
-    ∷ row (spatial && nat_lt 4 (extra_octets s)) 49 ExtraOctets (extra_octets s)  -- S5.13
+    rule (nat_lt 2 layout.management) 23 MissingManagement layout.management  -- S5.7
+    ∷ rule (nat_lt (value_count s) layout.groups) 32 GroupCount layout.groups  -- S5.8
+    ∷ rule (nat_lt 32 layout.width_reference) 36 GroupWidth layout.width_reference  -- S5.9
+    ∷ rule (nat_lt 32 layout.width_bits) 37 GroupWidth layout.width_bits  -- S5.10
+    ∷ rule (nat_lt 32 layout.length_bits) 47 GroupShape layout.length_bits  -- S5.11
+    ∷ rule (spatial && not (difference_order s == 1) && not (difference_order s == 2)) 48 DifferenceOrder (difference_order s)  -- S5.12
+    ∷ rule (spatial && nat_lt 4 (extra_octets s)) 49 ExtraOctets (extra_octets s)  -- S5.13
     ∷ []

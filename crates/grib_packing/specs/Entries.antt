@@ -10,17 +10,17 @@ use Rattle.grib_base.specs.declared.fault.Reason.TheVariants.{FirstValueSign, Sc
 use Rattle.grib_base.specs.declared.fault.Fault.{Fault}
 use Rattle.grib_base.specs.declared.profile.Profile.{Profile}
 use Rattle.grib_base.specs.declared.profile.Profile.TheVariants.{Stated, Open}
-use Rattle.grib_base.specs.Rows.{Row, row, first_fault, first_place, or_then, choose}
-use Rattle.grib_packing.specs.Groups.{grouped, list_rows, group_rows}
+use Rattle.grib_base.specs.Rules.{Rule, rule, first_fault, first_place, or_then, choose}
+use Rattle.grib_packing.specs.Groups.{grouped, list_rules, group_rules}
 use Rattle.grib_packing.specs.Column.{column_with, points_with_mask}
-use Rattle.grib_packing.specs.Simple.{simple_rows, simple_entries}
-use Rattle.grib_packing.specs.Coded.{coded_rows, coded_data_fault, coded_entries}
+use Rattle.grib_packing.specs.Simple.{simple_rules, simple_entries}
+use Rattle.grib_packing.specs.Coded.{coded_rules, coded_data_fault, coded_entries}
 use Rattle.grib_packing.specs.declared.column.Column.{Column}
 use Rattle.grib_packing.specs.declared.column.Point.{Point}
 use Rattle.grib_packing.specs.declared.column.Point.TheVariants.{Scaled, Missing, Missing2}
 use Rattle.grib_packing.specs.Packing.{packing_template, value_count, reference_word, bit_width, template_reason}
 use Rattle.grib_packing.specs.Differences.{Descriptors, undone, is_beyond}
-use Rattle.grib_packing.specs.Complex.{layout_of, complex_rows, difference_order, extra_octets, descriptor_octets}
+use Rattle.grib_packing.specs.Complex.{layout_of, complex_rules, difference_order, extra_octets, descriptor_octets}
 
 -- ---- complex packing
 
@@ -83,11 +83,11 @@ abbrev pub is_first_value_signed : List ℕ → List ℕ → ℕ → Bool
 is_first_value_signed s5 s7 j =
     nat_lt j (difference_order s5) && nat_lt 0 (extra_octets s5) && nat_lt 127 (octets s7 (descriptor_place s5 j) (descriptor_place s5 j))
 
--- row S7.3, by the two first values
-abbrev pub first_value_rows : List ℕ → List ℕ → List Row
-first_value_rows s5 s7 =
-    row (is_first_value_signed s5 s7 0) 6 FirstValueSign 1  -- S7.3, j = 1
-    ∷ row (is_first_value_signed s5 s7 1) (6 + extra_octets s5) FirstValueSign 2  -- S7.3, j = 2
+-- rule S7.3, by the two first values
+abbrev pub first_value_rules : List ℕ → List ℕ → List Rule
+first_value_rules s5 s7 =
+    rule (is_first_value_signed s5 s7 0) 6 FirstValueSign 1  -- S7.3, j = 1
+    ∷ rule (is_first_value_signed s5 s7 1) (6 + extra_octets s5) FirstValueSign 2  -- S7.3, j = 2
     ∷ []
 
 -- whether a number is outside plus and minus 2 ^ 60
@@ -96,24 +96,24 @@ is_out_of_range (Scaled x) = is_beyond x
 is_out_of_range Missing = false
 is_out_of_range Missing2 = false
 
--- rows S7.3 to S7.6, for a Section 7 that belongs to this Section 5
-abbrev pub group_data_rows : List ℕ → List ℕ → List Row
-group_data_rows s5 s7 = first_value_rows s5 s7 ++ group_rows (layout_of s5) s7 (descriptor_octets s5) (value_count s5)
+-- rules S7.3 to S7.6, for a Section 7 that belongs to this Section 5
+abbrev pub group_data_rules : List ℕ → List ℕ → List Rule
+group_data_rules s5 s7 = first_value_rules s5 s7 ++ group_rules (layout_of s5) s7 (descriptor_octets s5) (value_count s5)
 
--- row S7.7
-abbrev pub range_rows : List ℕ → List ℕ → List Row
-range_rows s5 s7 =
+-- rule S7.7
+abbrev pub range_rules : List ℕ → List ℕ → List Rule
+range_rules s5 s7 =
     let place = first_place is_out_of_range (group_entries s5 s7) in
-    row (packing_template s5 == 3 && nat_lt 0 place) 1 ScaledRange place  -- S7.7
+    rule (packing_template s5 == 3 && nat_lt 0 place) 1 ScaledRange place  -- S7.7
     ∷ []
 
--- the refusal of a Section 7 with groups: row S7.2, then S7.3 to S7.6, then S7.7
+-- the refusal of a Section 7 with groups: rule S7.2, then S7.3 to S7.6, then S7.7
 abbrev pub group_data_fault : List ℕ → List ℕ → Option Fault
 group_data_fault s5 s7 =
-    or_then (or_then (first_fault (list_rows (layout_of s5) (length s7) (descriptor_octets s5))) (λ _. group_data_rows s5 s7))
-    (λ _. range_rows s5 s7)
+    or_then (or_then (first_fault (list_rules (layout_of s5) (length s7) (descriptor_octets s5))) (λ _. group_data_rules s5 s7))
+    (λ _. range_rules s5 s7)
 
--- templates 5.2 and 5.3: where there are no groups, none of these rows is tried
+-- templates 5.2 and 5.3: where there are no groups, none of these rules is tried
 abbrev pub complex_data_fault : List ℕ → List ℕ → Option Fault
 complex_data_fault s5 s7 = choose (has_no_groups s5) (λ _. None) (λ _. group_data_fault s5 s7)
 
@@ -130,7 +130,7 @@ pub record PackingTemplate : Type 0 where
   pub least : ℕ  -- the least length of Section 5, in octets
   pub most : ℕ  -- the most bits of each packed number, or of each group reference
   pub stated : Bool  -- whether the stated profile has it; the open one has each of the list
-  pub rows : List ℕ → List Row  -- the rows of Section 5 that other templates do not share
+  pub rules : List ℕ → List Rule  -- the rules of Section 5 that other templates do not share
   pub fault : List ℕ → List ℕ → Option Fault  -- the refusal of a Section 7, from Sections 5 and 7
   pub entries : List ℕ → List ℕ → List Point  -- the entries of the present points, from Sections 5 and 7
 
@@ -140,8 +140,8 @@ simple_packing = record {
   least = 21;
   most = 48;
   stated = true;
-  rows = λ s. [];
-  fault = λ s5 s7. first_fault (simple_rows s5 (length s7));
+  rules = λ s. [];
+  fault = λ s5 s7. first_fault (simple_rules s5 (length s7));
   entries = simple_entries;
 }
 
@@ -151,7 +151,7 @@ complex_packing number least = record {
   least = least;
   most = 32;
   stated = true;
-  rows = complex_rows;
+  rules = complex_rules;
   fault = complex_data_fault;
   entries = complex_entries;
 }
@@ -162,7 +162,7 @@ coded_packing = record {
   least = 25;
   most = 32;
   stated = false;
-  rows = coded_rows;
+  rules = coded_rules;
   fault = coded_data_fault;
   entries = coded_entries;
 }
@@ -171,14 +171,14 @@ coded_packing = record {
 abbrev pub packings : List PackingTemplate
 packings = simple_packing ∷ complex_packing 2 47 ∷ complex_packing 3 49 ∷ coded_packing ∷ []
 
--- a template that is not in the list has no rows of its own, no refusal and no entries
+-- a template that is not in the list has no rules of its own, no refusal and no entries
 abbrev pub unlisted_packing : ℕ → PackingTemplate
 unlisted_packing number = record {
   number = number;
   least = 0;
   most = 255;
   stated = false;
-  rows = λ s. [];
+  rules = λ s. [];
   fault = λ s5 s7. None;
   entries = λ s5 s7. [];
 }
@@ -195,54 +195,54 @@ own_packing s5 = packing_of (packing_template s5)
 
 -- ---- what is read by them
 
--- rows S5.1 to S5.6, which all templates share, where the grid has this many points
-abbrev pub packing_rows : List ℕ → ℕ → List Row
-packing_rows s points =
+-- rules S5.1 to S5.6, which all templates share, where the grid has this many points
+abbrev pub packing_rules : List ℕ → ℕ → List Rule
+packing_rules s points =
     let l = length s in
     let t = packing_template s in
-    row (nat_lt l 11) 1 SectionLength l  -- S5.1
-    ∷ row (not (is_packing t)) 10 (template_reason t) t  -- S5.2
-    ∷ row (nat_lt l (packing_of t).least) 1 SectionLength l  -- S5.3
-    ∷ row (nat_lt points (value_count s)) 6 ValueCount (value_count s)  -- S5.4
-    ∷ row (ieee_exponent (reference_word s) == 255) 12 ReferenceNotFinite (reference_word s)  -- S5.5
-    ∷ row (nat_lt (packing_of t).most (bit_width s)) 20 BitWidth (bit_width s)  -- S5.6
+    rule (nat_lt l 11) 1 SectionLength l  -- S5.1
+    ∷ rule (not (is_packing t)) 10 (template_reason t) t  -- S5.2
+    ∷ rule (nat_lt l (packing_of t).least) 1 SectionLength l  -- S5.3
+    ∷ rule (nat_lt points (value_count s)) 6 ValueCount (value_count s)  -- S5.4
+    ∷ rule (ieee_exponent (reference_word s) == 255) 12 ReferenceNotFinite (reference_word s)  -- S5.5
+    ∷ rule (nat_lt (packing_of t).most (bit_width s)) 20 BitWidth (bit_width s)  -- S5.6
     ∷ []
 
--- the refusal of a Section 5 by these rows and by those of its template: rows S5.1 to S5.16
+-- the refusal of a Section 5 by these rules and by those of its template: rules S5.1 to S5.16
 abbrev pub packing_fault : List ℕ → ℕ → Option Fault
-packing_fault s points = or_then (first_fault (packing_rows s points)) (λ _. (own_packing s).rows s)
+packing_fault s points = or_then (first_fault (packing_rules s points)) (λ _. (own_packing s).rules s)
 
 -- whether a Section 5 has a template that is not in the list: then the packing is opaque
 abbrev pub is_opaque_packing : List ℕ → Bool
 is_opaque_packing s = not (is_packing (packing_template s))
 
--- the rows of a Section 5 with an opaque packing, where the grid has this many points
-abbrev pub opaque_packing_rows : List ℕ → ℕ → List Row
-opaque_packing_rows s points =
-    row (nat_lt (length s) 11) 1 SectionLength (length s)  -- S5.1
-    ∷ row (nat_lt points (value_count s)) 6 ValueCount (value_count s)  -- S5.4
+-- the rules of a Section 5 with an opaque packing, where the grid has this many points
+abbrev pub opaque_packing_rules : List ℕ → ℕ → List Rule
+opaque_packing_rules s points =
+    rule (nat_lt (length s) 11) 1 SectionLength (length s)  -- S5.1
+    ∷ rule (nat_lt points (value_count s)) 6 ValueCount (value_count s)  -- S5.4
     ∷ []
 
 -- whether the stated profile has the packing of a Section 5
 abbrev pub is_stated_packing : List ℕ → Bool
 is_stated_packing s = (own_packing s).stated
 
--- the rows of a Section 5 whose packing the stated profile does not have
-abbrev pub unstated_rows : List ℕ → List Row
-unstated_rows s =
+-- the rules of a Section 5 whose packing the stated profile does not have
+abbrev pub unstated_rules : List ℕ → List Rule
+unstated_rules s =
     let t = packing_template s in
-    row (nat_lt (length s) 11) 1 SectionLength (length s)  -- S5.1
-    ∷ row true 10 (template_reason t) t  -- S5.2
+    rule (nat_lt (length s) 11) 1 SectionLength (length s)  -- S5.1
+    ∷ rule true 10 (template_reason t) t  -- S5.2
     ∷ []
 
--- the refusal of a Section 5 under a profile: the open one tries no row of a template that is not in the list
+-- the refusal of a Section 5 under a profile: the open one tries no rule of a template that is not in the list
 abbrev pub packing_fault_under : Profile → List ℕ → ℕ → Option Fault
 packing_fault_under Stated s points =
-    choose (is_stated_packing s) (λ _. packing_fault s points) (λ _. first_fault (unstated_rows s))
+    choose (is_stated_packing s) (λ _. packing_fault s points) (λ _. first_fault (unstated_rules s))
 packing_fault_under Open s points =
-    choose (is_opaque_packing s) (λ _. first_fault (opaque_packing_rows s points)) (λ _. packing_fault s points)
+    choose (is_opaque_packing s) (λ _. first_fault (opaque_packing_rules s points)) (λ _. packing_fault s points)
 
--- the refusal of a Section 7: rows S7.1 to S7.11
+-- the refusal of a Section 7: rules S7.1 to S7.11
 abbrev pub data_fault : List ℕ → List ℕ → Option Fault
 data_fault s5 s7 = (own_packing s5).fault s5 s7
 

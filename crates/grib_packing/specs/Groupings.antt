@@ -2,7 +2,7 @@
 -- ours; templates 5.2 and 7.2 (WMO-No. 306, Volume I.2, FM 92 GRIB edition 2) allow any.
 use Rattle.std.specs.Prelude.{◌≡◌, ℕ, ◌+◌, ◌-◌, ◌*◌, ◌^◌, ◌≤◌, max, min, Bool, true, false, ◌&&◌, ◌||◌, cond, List, [], ◌∷◌, ◌++◌, length, take, drop, nat_lt, ◌==◌, sum, slice_index, All}
 use Rattle.std.specs.List.{range_with_len, filter_map, list_all}
-use Rattle.grib_base.specs.Rows.{first_place}
+use Rattle.grib_base.specs.Rules.{first_place}
 use Rattle.grib_base.specs.declared.code.Code.{Code}
 use Rattle.grib_base.specs.declared.code.Code.TheVariants.{Present, Primary, Secondary}
 use Rattle.grib_packing.specs.Entries.{present_code}

@@ -7,7 +7,7 @@ use Rattle.grib_bits.specs.Plain.{plain}
 use Rattle.grib_base.specs.declared.code.Code.{Code}
 use Rattle.grib_base.specs.declared.code.Code.TheVariants.{Present, Primary, Secondary}
 use Rattle.grib_base.specs.declared.fault.Reason.TheVariants.{DataTooShort, GroupWidth, GroupShape}
-use Rattle.grib_base.specs.Rows.{Row, row, first_place}
+use Rattle.grib_base.specs.Rules.{Rule, rule, first_place}
 use Rattle.grib_packing.specs.declared.group.Group.{Group}
 use Rattle.grib_packing.specs.declared.layout.Layout.{Layout}
 
@@ -88,19 +88,19 @@ abbrev pub first_past : ℕ → ℕ → List ℕ → ℕ
 first_past values n [] = n
 first_past values n (l ∷ rest) = cond (nat_lt values l) (n + 1) (first_past (values - l) (n + 1) rest)
 
--- Row S7.2, for a Section 7 of l octets that has `skip` octets of extra descriptors after octet 5
-abbrev pub list_rows : Layout → ℕ → ℕ → List Row
-list_rows layout l skip = row (nat_lt l (5 + skip + list_octets layout)) 1 DataTooShort l  -- S7.2
+-- Rule S7.2, for a Section 7 of l octets that has `skip` octets of extra descriptors after octet 5
+abbrev pub list_rules : Layout → ℕ → ℕ → List Rule
+list_rules layout l skip = rule (nat_lt l (5 + skip + list_octets layout)) 1 DataTooShort l  -- S7.2
     ∷ []
 
--- and rows S7.4 to S7.6, where Section 5 has this many values
-abbrev pub group_rows : Layout → List ℕ → ℕ → ℕ → List Row
-group_rows layout s7 skip values =
+-- and rules S7.4 to S7.6, where Section 5 has this many values
+abbrev pub group_rules : Layout → List ℕ → ℕ → ℕ → List Rule
+group_rules layout s7 skip values =
     let l = length s7 in
     let octets = drop (5 + skip) s7 in
     let before_numbers = 5 + skip + list_octets layout in
     let too_wide = first_place (λ w. nat_lt 32 w) (widths layout octets) in
-    row (nat_lt 0 too_wide) (6 + skip + reference_octets layout) GroupWidth too_wide  -- S7.4
-    ∷ row (not (sum (lengths layout octets) == values)) 1 GroupShape (first_past values 0 (lengths layout octets))  -- S7.5
-    ∷ row (nat_lt (8 * l) (8 * before_numbers + packed_bits (groups layout octets))) 1 DataTooShort l  -- S7.6
+    rule (nat_lt 0 too_wide) (6 + skip + reference_octets layout) GroupWidth too_wide  -- S7.4
+    ∷ rule (not (sum (lengths layout octets) == values)) 1 GroupShape (first_past values 0 (lengths layout octets))  -- S7.5
+    ∷ rule (nat_lt (8 * l) (8 * before_numbers + packed_bits (groups layout octets))) 1 DataTooShort l  -- S7.6
     ∷ []

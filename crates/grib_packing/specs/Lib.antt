@@ -8,8 +8,8 @@ pub mod Complex
 pub mod Entries
 pub mod Groupings
 pub mod Misfits
+pub mod Targets
 pub mod Packed
-pub mod Span
 pub mod Representation
 pub mod Sections
 pub mod Unpacked
@@ -19,4 +19,3 @@ pub mod Laws
 pub mod Kept
 pub use Rattle.grib_bitmap.specs.Mask
 pub use Rattle.grib_base.specs.Faults
-pub mod Words

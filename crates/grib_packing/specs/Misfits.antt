@@ -1,7 +1,7 @@
 -- What does not fit a packing: the columns that a packing refuses to write. Nothing is rounded or cut.
 use Rattle.std.specs.Prelude.{ℕ, ◌-◌, ◌^◌, Bool, true, false, cond, ◌||◌, Option, Some, None, List, nat_lt, int_lt, ℤ, pos, nat_abs}
 use Rattle.std.specs.List.{filter_map, list_any}
-use Rattle.grib_base.specs.Rows.{first_place}
+use Rattle.grib_base.specs.Rules.{first_place}
 use Rattle.grib_packing.specs.declared.column.Point.{Point}
 use Rattle.grib_packing.specs.declared.column.Point.TheVariants.{Scaled, Missing, Missing2}
 use Rattle.grib_packing.specs.Differences.{descriptors_of, difference_codes}

@@ -13,7 +13,7 @@ use Rattle.grib_packing.specs.declared.column.Column.{Column}
 use Rattle.grib_packing.specs.Differences.{Descriptors, descriptors_of, difference_codes}
 use Rattle.grib_packing.specs.Groupings.{digits, greatest, smallest, present_codes, is_primary, is_secondary, width_of, reference_bits_of, width_bits_of, header_bits, length_bits, runs, joined, Chosen}
 use Rattle.grib_coding.specs.declared.coding.Coding.{Coding}
-use Rattle.grib_block_writing.specs.Written as blocks
+use Rattle.grib_coding.specs.Written as blocks
 use Rattle.grib_packing.specs.Misfits.{Target, ToSimple, ToComplex, ToSpatial, ToCoded, is_missing, scaled_numbers, management_of}
 
 -- bits up to the end of an octet

@@ -2,7 +2,7 @@
 use Rattle.std.specs.Prelude.{◌≡◌, ◌≤◌, ℕ, Bool, None, Result, MatchResult, List, length}
 use Rattle.grib_base.specs.declared.fault.ReadFault.{ReadFault}
 use Rattle.grib_base.specs.Faults.{IsReadFault}
-use Rattle.grib_base.specs.Rows.{located}
+use Rattle.grib_base.specs.Rules.{located}
 use Rattle.grib_bitmap.specs.Mask.{present_count}
 use Rattle.grib_packing.specs.declared.column.Column.{Column}
 use Rattle.grib_packing.specs.Entries.{packing_fault, data_fault, column_from}
@@ -16,7 +16,7 @@ pub record MayBeUnpacked (template : ℕ) (s5 : List ℕ) (mask : List Bool) : T
   pub is_template : packing_template s5 ≡ template
   pub values : present_count mask ≡ value_count s5
 
--- The column of Sections 5 and 7 and the mask exactly where no row of Section 7 fails, which begins at
+-- The column of Sections 5 and 7 and the mask exactly where no rule of Section 7 fails, which begins at
 -- octet `start` of the message.
 abbrev pub IsUnpacked : List ℕ → List Bool → ℕ → List ℕ → Result Column ReadFault → Type 0
 IsUnpacked s5 mask start s7 result =

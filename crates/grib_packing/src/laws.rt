@@ -5,7 +5,7 @@ ghost use Rattle.grib_base.specs.declared.profile.Profile.TheVariants.{Stated, O
 ghost use Rattle.grib_packing.specs.Entries.{is_stated_packing, packing_fault_under};
 
 /// What the stated profile accepts of a Section 5, the open one accepts. Where the stated profile has the packing, both
-/// have the same rows.
+/// have the same rules.
 pub fn the_open_profile_accepts_more()
     ensures accepts { (s : List ℕ) (points : ℕ) → packing_fault_under Stated s points ≡ None
         → packing_fault_under Open s points ≡ None }

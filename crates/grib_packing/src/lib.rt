@@ -3,7 +3,7 @@
 //! whose packing is opaque.
 #![tactic(auto)]
 
-mod codes;
+mod binary;
 mod column;
 mod group;
 mod keeping;
@@ -12,11 +12,11 @@ mod layout;
 mod opaque;
 mod packing;
 mod representation;
-mod span;
+mod target;
 mod writing;
 mod written;
 
-pub use codes::{Codes, is_number, word_of};
+pub use binary::bit_length;
 pub use column::{Column, Point};
 pub use group::Group;
 pub use keeping::{Keeper, Nothing, Points, push_in_room};
@@ -24,6 +24,6 @@ pub use layout::Layout;
 pub use opaque::{Opaque, check_stated, is_opaque, is_read, read_opaque};
 pub use packing::Packing;
 pub use representation::{Simple, numbers_of, read_simple};
-pub use span::{Span, bit_length};
+pub use target::RepackTarget;
 pub use writing::{are_octets, no_bitmap, octets_written, room_for, write_head, write_numbers};
 pub use written::{PackFault, Packed};

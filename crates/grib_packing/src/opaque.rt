@@ -2,8 +2,8 @@
 
 ghost use Rattle.std.specs.Prelude.{◌≡◌, ◌≤◌, ℕ, length, Some, None, MatchResult};
 ghost use Rattle.grib_base.specs.declared.profile.Profile.TheVariants.{Stated};
-ghost use Rattle.grib_base.specs.Rows.{first_fault_at, located};
-ghost use Rattle.grib_packing.specs.Entries.{is_opaque_packing, is_packing, is_stated_packing, opaque_packing_rows, packing_fault, packing_fault_under};
+ghost use Rattle.grib_base.specs.Rules.{first_fault_at, located};
+ghost use Rattle.grib_packing.specs.Entries.{is_opaque_packing, is_packing, is_stated_packing, opaque_packing_rules, packing_fault, packing_fault_under};
 ghost use Rattle.grib_packing.specs.Representation.{SpelledOpaque};
 
 use crate::representation::{limits_of, reason_of};
@@ -21,12 +21,12 @@ pub struct Opaque {
 }
 
 /// Reads of Section 5 what stands in every template, where the grid has this many points. A refusal is that of
-/// the first row that fails: the section is too short, or there are more values than points.
+/// the first rule that fails: the section is too short, or there are more values than points.
 pub fn read_opaque(section: &Section<'_>, points: u32) -> Result<Opaque, Fault>
     ensures { MatchResult result
-        (λ value. (first_fault_at section.now.start (opaque_packing_rows section.now.octets.now points) ≡ None)
+        (λ value. (first_fault_at section.now.start (opaque_packing_rules section.now.octets.now points) ≡ None)
         × SpelledOpaque value section.now.octets.now)
-        (λ fault. first_fault_at section.now.start (opaque_packing_rows section.now.octets.now points)
+        (λ fault. first_fault_at section.now.start (opaque_packing_rules section.now.octets.now points)
         ≡ Some fault) }
 {
     let octets = section.octets;
@@ -69,7 +69,7 @@ pub fn is_stated(octets: &[u8]) -> bool
     }
 }
 
-/// Tries of a Section 5 the row by which the stated profile refuses a packing that it does not have. All other rows it
+/// Tries of a Section 5 the rule by which the stated profile refuses a packing that it does not have. All other rules it
 /// shares with every profile that has the packing.
 ///
 /// # Errors

@@ -23,7 +23,7 @@ pub trait Packing {
     ///
     /// # Errors
     ///
-    /// Section 7 is refused by the first row of the profile that fails, or there is no memory.
+    /// Section 7 is refused by the first rule of the profile that fails, or there is no memory.
     fn unpack(
         &self,
         alloc: Global,

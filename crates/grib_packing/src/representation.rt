@@ -3,9 +3,9 @@
 ghost use Rattle.std.specs.Prelude.{◌≡◌, ◌==◌, ◌≤◌, length, not, true, false, Some, None, MatchResult};
 ghost use Rattle.grib_bits.specs.Binary32.{ieee_exponent};
 ghost use Rattle.grib_bits.specs.Octets.{StatesItself};
-ghost use Rattle.grib_base.specs.Rows as rows;
-ghost use Rattle.grib_base.specs.Rows.{first_fault_at};
-ghost use Rattle.grib_packing.specs.Entries.{packing_rows, is_packing, packing_of};
+ghost use Rattle.grib_base.specs.Rules as acceptance;
+ghost use Rattle.grib_base.specs.Rules.{first_fault_at};
+ghost use Rattle.grib_packing.specs.Entries.{packing_rules, is_packing, packing_of};
 ghost use Rattle.grib_packing.specs.Packing.{template_reason};
 ghost use Rattle.grib_packing.specs.Representation.{Spelled};
 
@@ -48,14 +48,14 @@ impl Simple {
 }
 
 /// Reads of Section 5 what all templates share, where the grid has this many points. A refusal is that of
-/// the first row of the profile that fails: the section is too short, its template is not one of those
+/// the first rule of the profile that fails: the section is too short, its template is not one of those
 /// whose values are read, there are more values than points, the reference value is not finite, or the numbers are
 /// too wide.
 pub fn read_simple(section: &Section<'_>, points: u32) -> Result<Simple, Fault>
     ensures { MatchResult result
-        (λ value. (first_fault_at section.now.start (packing_rows section.now.octets.now points) ≡ None)
+        (λ value. (first_fault_at section.now.start (packing_rules section.now.octets.now points) ≡ None)
         × Spelled value section.now.octets.now)
-        (λ fault. first_fault_at section.now.start (packing_rows section.now.octets.now points)
+        (λ fault. first_fault_at section.now.start (packing_rules section.now.octets.now points)
         ≡ Some fault) }
 {
     let octets = section.octets;

@@ -8,14 +8,14 @@ use Rattle.grib_packing.specs.declared.keeping.Points.{Points}
 use Rattle.grib_packing.specs.Entries.{entries_of}
 use Rattle.grib_packing.specs.Kept.{ArePoints, PointsKept}
 use Rattle.grib_packing.specs.Packing.{bit_width, value_count}
-use Rattle.grib_groups.specs.Feeding.{plain_groups}
-use Rattle.grib_groups.specs.Taking.{IsEnd, values_within}
-use Rattle.grib_complex.specs.Feeding.{AreOctets}
-use Rattle.grib_complex.specs.Told.{Plainly}
-use Rattle.grib_complex.proofs.Begun.{both_octets, few_pending, none_pending, state_pends}
-use Rattle.grib_complex.proofs.SoFar.{state_column, state_mask}
-use Rattle.grib_complex.proofs.Starting.{plain_values}
-use Rattle.grib_complex.proofs.Told.{length-told}
+use Rattle.grib_group_reading.specs.Feeding.{plain_groups}
+use Rattle.grib_group_reading.specs.Taking.{IsEnd, values_within}
+use Rattle.grib_complex_reading.specs.Feeding.{AreOctets}
+use Rattle.grib_complex_reading.specs.Told.{Plainly}
+use Rattle.grib_complex_reading.proofs.Begun.{both_octets, few_pending, none_pending, state_pends}
+use Rattle.grib_complex_reading.proofs.SoFar.{state_column, state_mask}
+use Rattle.grib_complex_reading.proofs.Starting.{plain_values}
+use Rattle.grib_complex_reading.proofs.Told.{length-told}
 use Rattle.grib_packings.specs.declared.feeding.Feeding.{Feeding}
 use Rattle.grib_packings.specs.declared.reading.Reading.{Reading}
 use Rattle.grib_packings.specs.declared.reading.Reading.TheVariants.{Simple, Complex, Coded}

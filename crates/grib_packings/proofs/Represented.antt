@@ -3,12 +3,12 @@ use Rattle.std.proofs.Common.{◌≡◌, ◌≤◌, ℕ, List, arith, sym, ◌�
 use Rattle.grib_packing.specs.declared.representation.Simple.{Simple}
 use Rattle.grib_packing.specs.Packing.{packing_template, value_count}
 use Rattle.grib_packing.proofs.Packings.{most-simple, packing_passes}
-use Rattle.grib_complex.specs.declared.representation.Complex.{Complex}
+use Rattle.grib_complex_reading.specs.declared.representation.Complex.{Complex}
 use Rattle.grib_packings.specs.declared.representation.Representation.{Representation}
 use Rattle.grib_packings.specs.declared.representation.Representation.TheVariants as field
-use Rattle.grib_complex.specs.Descriptors.{IsAccepted}
+use Rattle.grib_complex_reading.specs.Descriptors.{IsAccepted}
 use Rattle.grib_packings.specs.Field.{Represents}
-use Rattle.grib_complex.proofs.Accepting.{accepted_from}
+use Rattle.grib_complex_reading.proofs.Accepting.{accepted_from}
 
 pub simple_width : (numbers : Simple) (s5 : List ℕ) → Represents (field.Simple numbers) s5 → numbers.bits ≤ 48
 simple_width numbers s5 read =

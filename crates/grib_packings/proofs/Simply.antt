@@ -4,7 +4,7 @@ use Rattle.std.proofs.lemmas.Bool.{lt-ltb}
 use Rattle.grib_bits.specs.Bits.{bits}
 use Rattle.grib_bits.specs.Plain.{plain}
 use Rattle.grib_base.specs.declared.fault.Reason.TheVariants.{DataTooShort}
-use Rattle.grib_base.specs.Rows.{located, refusal}
+use Rattle.grib_base.specs.Rules.{located, refusal}
 use Rattle.grib_packing.specs.declared.column.Point.{Point}
 use Rattle.grib_packing.specs.declared.column.Point.TheVariants.{Scaled}
 use Rattle.grib_packing.specs.Entries.{data_fault, entries_of}
@@ -12,18 +12,18 @@ use Rattle.grib_packing.specs.Groups.{codes_from}
 use Rattle.grib_packing.specs.Packing.{packing_template, value_count, bit_width}
 use Rattle.grib_packing.specs.Simple.{plain_bits}
 use Rattle.grib_packing.proofs.Packings.{data_fault-simple, entries_of-simple}
-use Rattle.grib_groups.specs.declared.feeding.Fed.{Fed}
-use Rattle.grib_groups.specs.Feeding.{IsCaughtUp, IsFeedable, WasFed, no_marks, plain_groups}
-use Rattle.grib_groups.specs.Table.{groups_in}
-use Rattle.grib_groups.specs.Taking.{values_within}
-use Rattle.grib_complex.specs.declared.values.PlainValues.{PlainValues}
-use Rattle.grib_complex.specs.Feeding.{Continues, PassingAgrees, PlainAgrees}
-use Rattle.grib_complex.specs.Tells.{PlainTook}
-use Rattle.grib_complex.specs.Told.{Plainly, told}
-use Rattle.grib_complex.proofs.Arriving.{continues_from}
-use Rattle.grib_complex.proofs.Begun.{plain_more, told_count}
-use Rattle.grib_complex.proofs.SoFar.{plain_points}
-use Rattle.grib_complex.proofs.Starting.{plain_told, plain_values, starts_plain}
+use Rattle.grib_group_reading.specs.declared.feeding.Fed.{Fed}
+use Rattle.grib_group_reading.specs.Feeding.{IsCaughtUp, IsFeedable, WasFed, no_marks, plain_groups}
+use Rattle.grib_group_reading.specs.Table.{groups_in}
+use Rattle.grib_group_reading.specs.Taking.{values_within}
+use Rattle.grib_complex_reading.specs.declared.values.PlainValues.{PlainValues}
+use Rattle.grib_complex_reading.specs.Feeding.{Continues, PassingAgrees, PlainAgrees}
+use Rattle.grib_complex_reading.specs.Tells.{PlainTook}
+use Rattle.grib_complex_reading.specs.Told.{Plainly, told}
+use Rattle.grib_complex_reading.proofs.Arriving.{continues_from}
+use Rattle.grib_complex_reading.proofs.Begun.{plain_more, told_count}
+use Rattle.grib_complex_reading.proofs.SoFar.{plain_points}
+use Rattle.grib_complex_reading.proofs.Starting.{plain_told, plain_values, starts_plain}
 use Rattle.grib_packings.specs.Reading.{ReadingSimply, simply_so_far}
 
 module _ (s5 : List ℕ) (zero_template : packing_template s5 ≡ 0) where

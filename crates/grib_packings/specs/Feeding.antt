@@ -7,8 +7,8 @@ use Rattle.grib_packing.specs.declared.keeping.Points.{Points}
 use Rattle.grib_packing.specs.Kept.{ArePoints, PointsKept}
 use Rattle.grib_packing.specs.Packing.{value_count}
 use Rattle.grib_packing.specs.Representation as simple
-use Rattle.grib_groups.specs.Taking.{IsEnd}
-use Rattle.grib_complex.specs.Feeding.{AreOctets}
+use Rattle.grib_group_reading.specs.Taking.{IsEnd}
+use Rattle.grib_complex_reading.specs.Feeding.{AreOctets}
 use Rattle.grib_packings.specs.declared.feeding.Feeding.{Feeding}
 use Rattle.grib_packings.specs.declared.reading.Reading.{Reading}
 use Rattle.grib_packings.specs.Reading.{ColumnAgrees, ReadingAgrees, keeper_in, pending_in}

@@ -4,8 +4,8 @@ use Rattle.std.specs.Prelude.{◌≡◌, ◌≤◌, ◌⊎◌, ℕ, true, None, 
 use Rattle.grib_packing.specs.Entries.{is_opaque_packing, packing_fault}
 use Rattle.grib_packing.specs.Packing.{packing_template}
 use Rattle.grib_packing.specs.Representation as simple
-use Rattle.grib_complex.specs.Representation as complex
-use Rattle.grib_ccsds.specs.Representation as coded
+use Rattle.grib_complex_reading.specs.Representation as complex
+use Rattle.grib_block_feeding.specs.Representation as coded
 use Rattle.grib_packings.specs.declared.data_representation.DataRepresentation.{DataRepresentation}
 use Rattle.grib_packings.specs.declared.data_representation.DataRepresentation.TheVariants.{Read, Opaque}
 use Rattle.grib_packings.specs.declared.representation.Representation.{Representation}
@@ -17,14 +17,14 @@ HasNumbersOf (Simple numbers) s5 = (packing_template s5 ≡ 0) × simple.Spelled
 HasNumbersOf (Complex numbers) s5 = ((packing_template s5 ≡ 2) ⊎ (packing_template s5 ≡ 3)) × complex.Spelled numbers s5
 HasNumbersOf (Coded numbers) s5 = (packing_template s5 ≡ 42) × coded.Spelled numbers s5
 
--- what this Section 5 says, which no row of the profile refuses for a grid of this many points
+-- what this Section 5 says, which no rule of the profile refuses for a grid of this many points
 pub record Represents (representation : Representation) (s5 : List ℕ) : Type 0 where
   pub numbers : HasNumbersOf representation s5
   pub points : ℕ
   pub few : points ≤ 33554432
   pub accepted : packing_fault s5 points ≡ None
 
--- What this Section 5 says of a field: one that no row of the profile refuses, or one with an opaque packing.
+-- What this Section 5 says of a field: one that no rule of the profile refuses, or one with an opaque packing.
 abbrev pub IsDataOf : DataRepresentation → List ℕ → Type 0
 IsDataOf (Read representation) s5 = Represents representation s5
 IsDataOf (Opaque opaque) s5 = (is_opaque_packing s5 ≡ true) × simple.SpelledOpaque opaque s5

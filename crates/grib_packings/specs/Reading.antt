@@ -11,13 +11,13 @@ use Rattle.grib_packing.specs.Coded.{coding_of, is_coded, point_of}
 use Rattle.grib_packing.specs.Entries.{data_fault, entries_of}
 use Rattle.grib_packing.specs.Kept.{ArePoints}
 use Rattle.grib_packing.specs.Packing.{bit_width, packing_template, value_count}
-use Rattle.grib_groups.specs.declared.feeding.Fed.{Fed}
-use Rattle.grib_groups.specs.Feeding.{no_marks, pending_of, plain_groups}
-use Rattle.grib_groups.specs.Table.{groups_in}
-use Rattle.grib_groups.specs.Taking.{values_within}
-use Rattle.grib_complex.specs.declared.values.PlainValues.{PlainValues}
-use Rattle.grib_complex.specs.Feeding as complex
-use Rattle.grib_complex.specs.Feeding.{AreOctets, Continues, IsFaultOf, PassingAgrees, PlainAgrees, StateAgrees}
+use Rattle.grib_group_reading.specs.declared.feeding.Fed.{Fed}
+use Rattle.grib_group_reading.specs.Feeding.{no_marks, pending_of, plain_groups}
+use Rattle.grib_group_reading.specs.Table.{groups_in}
+use Rattle.grib_group_reading.specs.Taking.{values_within}
+use Rattle.grib_complex_reading.specs.declared.values.PlainValues.{PlainValues}
+use Rattle.grib_complex_reading.specs.Feeding as complex
+use Rattle.grib_complex_reading.specs.Feeding.{AreOctets, Continues, IsFaultOf, PassingAgrees, PlainAgrees, StateAgrees}
 use Rattle.grib_packings.specs.declared.reading.Reading.{Reading}
 use Rattle.grib_packings.specs.declared.reading.Reading.TheVariants.{Simple, Complex, Coded}
 use Rattle.grib_packings.specs.declared.coded_reading.CodedReading.{CodedReading}
@@ -32,7 +32,7 @@ abbrev pub simply_so_far : List ℕ → List ℕ → List ℕ → List Point
 simply_so_far s5 s7 octets = take (values_within (plain_groups (bit_width s5) (value_count s5)) (8 * length octets)) (entries_of s5 s7)
 
 -- The packed numbers of all values come: the points of those that came are kept, and no further number ends in these
--- octets. No row fails, whatever comes.
+-- octets. No rule fails, whatever comes.
 pub record ReadingSimply {K : Type 0} (kept : K → List Point → K → Type 0) (s5 : List ℕ) (keeper : K) (l : ℕ) (octets : List ℕ) (fed : Fed (PlainValues K)) : Type 0 where
   pub simple : packing_template s5 ≡ 0
   pub reads : PlainAgrees kept keeper l octets no_marks (plain_groups (bit_width s5) (value_count s5)) 0 fed

@@ -1,7 +1,7 @@
 //! How far a Section 7 in CCSDS packing was read that comes in pieces.
 
 ghost use Rattle.std.specs.Prelude.{◌≡◌, ℕ, ◌^◌, ◌<◌, None, Some, List, [], ◌++◌, length as length_of, drop, MatchResult};
-ghost use Rattle.grib_base.specs.Rows.{located};
+ghost use Rattle.grib_base.specs.Rules.{located};
 ghost use Rattle.grib_packing.specs.Entries.{data_fault, entries_of};
 ghost use Rattle.grib_packing.specs.Packing.{value_count};
 ghost use Rattle.grib_packings.specs.Field.{Represents};
@@ -9,8 +9,7 @@ ghost use Rattle.grib_packings.specs.declared.representation.Representation.TheV
 ghost use Rattle.grib_packings.specs.Reading.{CodedAgrees, IsFedCoded};
 
 use grib_base::Fault;
-use grib_block_feeding::FedBlocks;
-use grib_ccsds::{Coded, fault_of_blocks, keep_zeros};
+use grib_block_feeding::{Coded, FedBlocks, fault_of_blocks, keep_zeros};
 use grib_packing::Keeper;
 
 /// How far a Section 7 in CCSDS packing was read (WMO-No. 306, Volume I.2, FM 92 GRIB edition 2, data template

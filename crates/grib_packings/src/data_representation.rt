@@ -3,7 +3,7 @@
 ghost use Rattle.std.specs.Prelude.{◌≡◌, ℕ, ◌≤◌, List, true, false, None, Some, MatchOption, MatchResult};
 ghost use Rattle.grib_base.specs.declared.profile.Profile.TheVariants.{Open};
 ghost use Rattle.grib_base.specs.Faults.{AreTried};
-ghost use Rattle.grib_base.specs.Rows.{located};
+ghost use Rattle.grib_base.specs.Rules.{located};
 ghost use Rattle.grib_packing.specs.Entries.{data_fault, is_opaque_packing, packing_fault, packing_fault_under};
 ghost use Rattle.grib_packing.specs.Packing.{value_count};
 ghost use Rattle.grib_packings.specs.Field.{IsDataOf, Represents};
@@ -28,7 +28,7 @@ impl DataRepresentation {
     ///
     /// # Errors
     ///
-    /// The refusal of the first row of the profile that fails.
+    /// The refusal of the first rule of the profile that fails.
     pub fn read(
         profile: Profile,
         section5: &Section<'_>,
@@ -75,11 +75,11 @@ impl DataRepresentation {
         }
     }
 
-    /// Tries the rows of the field's Section 7. Of an opaque packing none is tried. No column is made.
+    /// Tries the rules of the field's Section 7. Of an opaque packing none is tried. No column is made.
     ///
     /// # Errors
     ///
-    /// The refusal of the first row of the profile that fails, or there is no memory.
+    /// The refusal of the first rule of the profile that fails, or there is no memory.
     pub fn check_data(&self, alloc: Global, section7: &Section<'_>) -> Result<(), ReadFault>
         requires { (s5 : List ℕ) × IsDataOf self.now s5 }
         ensures { (s5 : List ℕ) → IsDataOf self.now s5

@@ -1,7 +1,7 @@
 //! A Section 7 that is read as its octets come.
 
 ghost use Rattle.std.specs.Prelude.{◌≡◌, ℕ, ◌+◌, ◌≤◌, Some, None, List, Bool, [], ◌++◌, length as length_of, drop, IfOk, MatchResult};
-ghost use Rattle.grib_base.specs.Rows.{located};
+ghost use Rattle.grib_base.specs.Rules.{located};
 ghost use Rattle.grib_bitmap.specs.Mask.{present_count};
 ghost use Rattle.grib_packing.specs.Entries.{packing_fault, data_fault, entries_of, column_from};
 ghost use Rattle.grib_packing.specs.Packing.{value_count};
@@ -13,7 +13,7 @@ use crate::reading::Reading;
 use crate::representation::Representation;
 use grib_base::{Fault, Section};
 use grib_bitmap::Mask;
-use grib_complex::length_of_section;
+use grib_complex_reading::length_of_section;
 use grib_packing::{Column, Keeper, Points, Simple};
 use std::alloc::{AllocError, Global};
 
@@ -120,7 +120,7 @@ impl<K: Keeper + Drop> Feeding<K> {
     ///
     /// # Errors
     ///
-    /// Section 7 is refused by the first row of the profile that fails.
+    /// Section 7 is refused by the first rule of the profile that fails.
     pub fn end(self) -> Result<K, Fault>
         requires fed { IsFed K.kept self }
         requires all { octets_left self ≡ 0 }
@@ -175,7 +175,7 @@ impl Feeding<Points> {
     ///
     /// # Errors
     ///
-    /// Section 7 is refused by the first row of the profile that fails.
+    /// Section 7 is refused by the first rule of the profile that fails.
     pub fn finish(self) -> Result<Column, Fault>
         requires fed { IsFed PointsKept self }
         requires all { octets_left self ≡ 0 }

@@ -1,10 +1,10 @@
 //! How far a Section 7 was read that comes in pieces, by its packing.
 
 ghost use Rattle.std.specs.Prelude.{◌≡◌, ℕ, ◌+◌, ◌≤◌, None, Some, List, [], ◌++◌, length as length_of, drop, IfOk, MatchResult};
-ghost use Rattle.grib_base.specs.Rows.{located};
+ghost use Rattle.grib_base.specs.Rules.{located};
 ghost use Rattle.grib_packing.specs.Entries.{data_fault, entries_of};
 ghost use Rattle.grib_packing.specs.Packing.{value_count};
-ghost use Rattle.grib_complex.specs.Feeding.{AreOctets};
+ghost use Rattle.grib_complex_reading.specs.Feeding.{AreOctets};
 ghost use Rattle.grib_packings.specs.Field.{Represents};
 ghost use Rattle.grib_packings.specs.Reading.{IsFedReading, IsWholeReading, ReadingAgrees};
 
@@ -12,7 +12,7 @@ use crate::coded_reading::CodedReading;
 use crate::representation::Representation;
 use crate::simple_reading::SimpleReading;
 use grib_base::Fault;
-use grib_complex::ComplexReading;
+use grib_complex_reading::ComplexReading;
 use grib_packing::Keeper;
 use std::alloc::{AllocError, Global};
 
@@ -81,7 +81,7 @@ impl<K: Keeper + Drop> Reading<K> {
     ///
     /// # Errors
     ///
-    /// Section 7 is refused by the first row of the profile that fails.
+    /// Section 7 is refused by the first rule of the profile that fails.
     pub fn end(self, start: u64, length: u32) -> Result<K, Fault>
         requires { IsWholeReading K.kept start length self }
         ensures { (s5 : List ℕ) (keeper : _) (s7 : List ℕ) → length_of s7 ≡ length → AreOctets (drop 5 s7) → ReadingAgrees K.kept s5 keeper start (length_of s7) (drop 5 s7) self

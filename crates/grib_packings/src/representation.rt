@@ -2,7 +2,7 @@
 
 ghost use Rattle.std.specs.Prelude.{◌≡◌, ℕ, ◌≤◌, List, length, None, Some, MatchResult};
 ghost use Rattle.grib_base.specs.Faults.{AreTried, IsReadFault};
-ghost use Rattle.grib_base.specs.Rows.{located};
+ghost use Rattle.grib_base.specs.Rules.{located};
 ghost use Rattle.grib_bitmap.specs.Mask.{present_count};
 ghost use Rattle.grib_packing.specs.Entries.{packing_fault, data_fault, entries_of};
 ghost use Rattle.grib_packing.specs.Packing.{value_count};
@@ -13,10 +13,10 @@ ghost use Rattle.grib_packings.specs.Field.{Represents};
 use crate::feeding::Feeding;
 use grib_base::{Fault, ReadFault, Section};
 use grib_bitmap::Mask;
-use grib_ccsds::{Coded, coded_of};
-use grib_complex::{Complex, complex_of};
+use grib_block_feeding::{Coded, coded_of};
+use grib_complex_reading::{Complex, complex_of};
 use grib_packing::{Column, Keeper, Nothing, Points, Simple, read_simple};
-use grib_simple::unpack_simple;
+use grib_simple_reading::unpack_simple;
 use std::alloc::Global;
 
 /// What Section 5 says of a field, by its packing (WMO-No. 306, Volume I.2, FM 92 GRIB edition 2, code table
@@ -36,7 +36,7 @@ impl Representation {
     ///
     /// # Errors
     ///
-    /// The refusal of the first row of the profile that fails.
+    /// The refusal of the first rule of the profile that fails.
     pub fn read(section5: &Section<'_>, points: u32) -> Result<Representation, Fault>
         requires { points ≤ 33554432 }
         ensures { MatchResult result
@@ -82,11 +82,11 @@ impl Representation {
         self.shared().values
     }
 
-    /// Tries the rows of the field's Section 7. No column is made.
+    /// Tries the rules of the field's Section 7. No column is made.
     ///
     /// # Errors
     ///
-    /// The refusal of the first row of the profile that fails, or there is no memory.
+    /// The refusal of the first rule of the profile that fails, or there is no memory.
     pub fn check_data(&self, alloc: Global, section7: &Section<'_>) -> Result<(), ReadFault>
         requires { (s5 : List ℕ) × Represents self.now s5 }
         ensures { (s5 : List ℕ) → Represents self.now s5
@@ -100,7 +100,7 @@ impl Representation {
     ///
     /// # Errors
     ///
-    /// Section 7 is refused by the first row of the profile that fails, or there is no memory. What keeps the
+    /// Section 7 is refused by the first rule of the profile that fails, or there is no memory. What keeps the
     /// points is dropped.
     pub fn take_values<K: Keeper + Drop>(
         &self,
@@ -123,7 +123,7 @@ impl Representation {
     ///
     /// # Errors
     ///
-    /// Section 7 is refused by the first row of the profile that fails, or there is no memory.
+    /// Section 7 is refused by the first rule of the profile that fails, or there is no memory.
     pub fn unpack(
         &self,
         alloc: Global,

@@ -1,18 +1,18 @@
 //! How far a Section 7 in simple packing was read that comes in pieces.
 
 ghost use Rattle.std.specs.Prelude.{◌≡◌, ℕ, ◌^◌, ◌<◌, ◌≤◌, None, Some, List, [], ◌++◌, length as length_of, drop, MatchResult};
-ghost use Rattle.grib_base.specs.Rows.{located};
+ghost use Rattle.grib_base.specs.Rules.{located};
 ghost use Rattle.grib_packing.specs.Entries.{data_fault, entries_of};
 ghost use Rattle.grib_packing.specs.Packing.{packing_template, value_count};
 ghost use Rattle.grib_packing.specs.Representation.{Spelled};
-ghost use Rattle.grib_complex.specs.Feeding.{AreOctets};
+ghost use Rattle.grib_complex_reading.specs.Feeding.{AreOctets};
 ghost use Rattle.grib_packings.specs.Reading.{IsFedSimply, SimpleAgrees};
 
 use grib_base::{Fault, Reason};
-use grib_complex::PlainValues;
-use grib_groups::Fed;
+use grib_complex_reading::PlainValues;
+use grib_group_reading::Fed;
 use grib_packing::{Keeper, Simple};
-use grib_simple::is_too_short;
+use grib_simple_reading::is_too_short;
 use std::alloc::Global;
 
 /// How far a Section 7 in simple packing was read (WMO-No. 306, Volume I.2, FM 92 GRIB edition 2, data template
@@ -21,7 +21,7 @@ use std::alloc::Global;
 pub(crate) enum SimpleReading<K> {
     /// Packed numbers come, which are the scaled integers themselves.
     Reads(Fed<PlainValues<K>>),
-    /// No row of the profile fails, whatever comes, and no points are kept.
+    /// No rule of the profile fails, whatever comes, and no points are kept.
     Passes(K),
     /// The section is too short.
     Refused(Fault, K),

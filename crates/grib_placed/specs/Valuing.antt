@@ -1,5 +1,6 @@
 -- `dump decimals= place=yes`: as `dump decimals=`, with the latitude and the longitude of each point.
 use Rattle.std.specs.Prelude.{ℕ, Option, List}
+use Rattle.grib_base.specs.Rules.{or_later}
 use Rattle.grib_dyadic.specs.Reference.{ieee, reduced}
 use Rattle.grib2_message.specs.Fields.{field_count, part_octets, column_of}
 use Rattle.grib_reasons.specs.declared.cause.Cause.{Cause}
@@ -9,7 +10,7 @@ use Rattle.grib_stream.specs.declared.place.Place.{Place}
 use Rattle.grib_stream.specs.Task.{Given}
 use Rattle.grib_command.specs.Command.{Command, IsLawfulCommand, reading_values, texts_from}
 use Rattle.grib_command.specs.LawfulCommands.{reading_lawful}
-use Rattle.grib_report.specs.Valuing.{scale_by, cause_2, or_later, text_unless, few_unless, ends_unless}
+use Rattle.grib_report.specs.Valuing.{scale_by, cause_2, text_unless, few_unless, ends_unless}
 use Rattle.grib_placed.specs.Causes.{message_place_cause}
 use Rattle.grib_placed.specs.Commands.{placed_by, placed_by_lawful}
 use Rattle.grib_placed.specs.Lines.{placed}

@@ -2,9 +2,9 @@
 
 ghost use Rattle.std.specs.Prelude.{◌≡◌, ℕ, ◌-◌, ◌*◌, ◌≤◌, ◌*ℤ◌, ◌+ℤ◌, ◌≤ℤ◌, List, [], ◌∷◌, pos, neg_ℤ, Some, None, codes};
 ghost use Rattle.grib_bits.specs.Octets.{octets, signed_octets};
-ghost use Rattle.grib_base.specs.Rows.{first_fault};
+ghost use Rattle.grib_base.specs.Rules.{first_fault};
 ghost use Rattle.grib_base.specs.declared.profile.Profile.{Profile};
-ghost use Rattle.grib2_grids.specs.Opaque.{grid_rows_under};
+ghost use Rattle.grib2_grids.specs.Opaque.{grid_rules_under};
 ghost use Rattle.grib_rescan.specs.Sections.{HasPoints, HasTemplate};
 ghost use Rattle.grib_places.specs.declared.cause.PlaceCause.TheVariants.{GridKind, ScanMode};
 ghost use Rattle.grib_rescan.specs.Worked.{grid, north, south, west, east};
@@ -30,10 +30,10 @@ pub fn what_is_told_is_kept()
 
 /// What is known where no row of a profile refuses a Section 3, and its places are told: it has its points.
 pub fn what_has_places()
-    ensures template { (profile : Profile) (s : List ℕ) → first_fault (grid_rows_under profile s) ≡ None → HasTemplate s }
-    ensures points { (profile : Profile) (s : List ℕ) → first_fault (grid_rows_under profile s) ≡ None
+    ensures template { (profile : Profile) (s : List ℕ) → first_fault (grid_rules_under profile s) ≡ None → HasTemplate s }
+    ensures points { (profile : Profile) (s : List ℕ) → first_fault (grid_rules_under profile s) ≡ None
         → place_cause_of s ≡ None → HasPoints s }
-    ensures product { (profile : Profile) (s : List ℕ) → first_fault (grid_rows_under profile s) ≡ None
+    ensures product { (profile : Profile) (s : List ℕ) → first_fault (grid_rules_under profile s) ≡ None
         → place_cause_of s ≡ None → octets s 31 34 * octets s 35 38 ≡ octets s 7 10 }
 {
     what_has_no_cause();

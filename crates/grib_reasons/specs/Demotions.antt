@@ -1,5 +1,7 @@
 -- The names of the losses of demotion, as a note prints them.
-use Rattle.std.specs.Prelude.{ℕ, List, codes, Option, Some, None}
+use Rattle.std.specs.Prelude.{ℕ, List, ◌++◌, codes, Option, Some, None}
+use Rattle.std.specs.Fmt.{decimal}
+use Rattle.grib_reasons.specs.Losses.{numbered}
 use Rattle.grib_reasons.specs.declared.demotion.Demotion.{Demotion}
 use Rattle.grib_reasons.specs.declared.demotion.Demotion.TheVariants.{Product, GridTemplate, Centre, Parameter, Level, TimeUnit, Process, Date, Interval, LocalUse, EarthShape, GridFlags, RowList, GridNumber, Coordinate, Reference, SecondaryMissing, OutOfRange, TooLong}
 
@@ -33,3 +35,7 @@ number_of (SecondaryMissing point) = Some point
 number_of (OutOfRange point) = Some point
 number_of (TooLong length) = Some length
 number_of _ = None
+
+-- the loss as a note prints it
+abbrev pub demotion_text : Demotion → List ℕ
+demotion_text loss = numbered (name_of loss) (number_of loss)

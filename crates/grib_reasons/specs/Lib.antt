@@ -1,3 +1,4 @@
 pub mod Losses
 pub mod Demotions
+pub mod Causes
 pub mod Tables

@@ -1,5 +1,6 @@
 -- The names of the losses, as a note prints them.
-use Rattle.std.specs.Prelude.{ℕ, List, codes, Option, Some, None}
+use Rattle.std.specs.Prelude.{ℕ, List, ◌++◌, codes, Option, Some, None}
+use Rattle.std.specs.Fmt.{decimal}
 use Rattle.grib_reasons.specs.declared.loss.Loss.{Loss}
 use Rattle.grib_reasons.specs.declared.loss.Loss.TheVariants.{Parameter, LevelType, TimeUnit, TimeRange, Date, AverageCount, LocalUse, GridFlags, GridNumber, Coordinate, Reference}
 
@@ -21,3 +22,12 @@ abbrev pub number_of : Loss → Option ℕ
 number_of (GridNumber octet) = Some octet
 number_of (Coordinate index) = Some index
 number_of _ = None
+
+-- a name, with a number after it where there is one
+abbrev pub numbered : List ℕ → Option ℕ → List ℕ
+numbered name None = name
+numbered name (Some number) = name ++ codes " " ++ decimal number
+
+-- the loss as a note prints it
+abbrev pub loss_text : Loss → List ℕ
+loss_text loss = numbered (name_of loss) (number_of loss)

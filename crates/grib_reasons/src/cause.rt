@@ -1,9 +1,12 @@
 //! Why a message that is accepted is not changed as asked.
 
+ghost use Rattle.std.specs.Prelude.{Some};
+ghost use Rattle.grib_reasons.specs.Causes.{cause_text};
+
 use crate::demotion::Demotion;
 use crate::loss::Loss;
-use grib_keys::Key;
-use grib1_sections::Key1;
+use grib_keys::{Key, Key1};
+use std::fmt;
 
 /// Why a message that is accepted is not changed or printed as asked: what of it would be lost first. Fields
 /// are counted from 1 in their message, and grid points from 1 in their field.
@@ -46,6 +49,39 @@ pub enum Cause {
     Packing { template: u16, field: u32 },
     /// The reference time would be no date and time.
     Date,
+}
+
+impl fmt::Display for Cause {
+    ghost output = { λ cause. Some (cause_text cause) };
+
+    fn fmt<W: fmt::Write>(&self, f: &mut fmt::Formatter<W>) -> fmt::Result {
+        match *self {
+            Cause::EditionOne => f.write_str("EditionOne"),
+            Cause::EditionTwo => f.write_str("EditionTwo"),
+            Cause::SecondaryMissing { field, point } => {
+                write!(f, "SecondaryMissing field {field} point {point}")
+            }
+            Cause::OutOfRange { field, point } => {
+                write!(f, "OutOfRange field {field} point {point}")
+            }
+            Cause::DifferenceRange { field } => write!(f, "DifferenceRange field {field}"),
+            Cause::OutputTooLong(length) => write!(f, "OutputTooLong {length}"),
+            Cause::KeyRange { key } => write!(f, "KeyRange {key}"),
+            Cause::KeyRange1 { key } => write!(f, "KeyRange {key}"),
+            Cause::KeyAbsent { field, key } => write!(f, "KeyAbsent {key} field {field}"),
+            Cause::Lost(loss) => write!(f, "Loss {loss}"),
+            Cause::Demoted { field, loss } => write!(f, "Demotion {loss} field {field}"),
+            Cause::GridKind { field } => write!(f, "GridKind field {field}"),
+            Cause::ScanMode { field } => write!(f, "ScanMode field {field}"),
+            Cause::OutsideBox { field } => write!(f, "OutsideBox field {field}"),
+            Cause::Increments { field } => write!(f, "Increments field {field}"),
+            Cause::DecimalRange { field, point } => {
+                write!(f, "DecimalRange field {field} point {point}")
+            }
+            Cause::Packing { template, field } => write!(f, "Packing {template} field {field}"),
+            Cause::Date => f.write_str("Date"),
+        }
+    }
 }
 
 /// A message that is accepted and cannot be changed or printed as asked.

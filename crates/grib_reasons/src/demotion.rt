@@ -1,7 +1,7 @@
 //! What of a field of edition 2 has no place in edition 1.
 
-ghost use Rattle.std.specs.Prelude.{◌≡◌};
-ghost use Rattle.grib_reasons.specs.Demotions.{name_of, number_of};
+ghost use Rattle.std.specs.Prelude.{◌≡◌, Some};
+ghost use Rattle.grib_reasons.specs.Demotions.{demotion_text, name_of, number_of};
 
 use std::fmt;
 
@@ -93,6 +93,8 @@ impl Demotion {
 }
 
 impl fmt::Display for Demotion {
+    ghost output = { λ loss. Some (demotion_text loss) };
+
     fn fmt<W: fmt::Write>(&self, f: &mut fmt::Formatter<W>) -> fmt::Result {
         match self.number() {
             Some(number) => write!(f, "{} {number}", self.name()),

@@ -1,7 +1,7 @@
 //! What of a message of edition 1 has no place in edition 2.
 
-ghost use Rattle.std.specs.Prelude.{◌≡◌};
-ghost use Rattle.grib_reasons.specs.Losses.{name_of, number_of};
+ghost use Rattle.std.specs.Prelude.{◌≡◌, Some};
+ghost use Rattle.grib_reasons.specs.Losses.{loss_text, name_of, number_of};
 
 use std::fmt;
 
@@ -66,6 +66,8 @@ impl Loss {
 }
 
 impl fmt::Display for Loss {
+    ghost output = { λ loss. Some (loss_text loss) };
+
     fn fmt<W: fmt::Write>(&self, f: &mut fmt::Formatter<W>) -> fmt::Result {
         match self.number() {
             Some(number) => write!(f, "{} {number}", self.name()),

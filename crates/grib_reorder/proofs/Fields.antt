@@ -1,23 +1,22 @@
 -- Lemmas on fields that are tried one after another.
-use Rattle.std.proofs.Common.{◌≡◌, ℕ, zero, suc, ◌+◌, ◌-◌, ◌<◌, ◌≤◌, Bool, cond, Option, Some, None, option_map, List, [], ◌∷◌, ◌++◌, length, sum_by, inl, inr, refl, sym, ap, ◌∙◌, arith, subst, lt-ltb}
-use Rattle.std.specs.List.{range_with_len}
+use Rattle.std.proofs.Common.{◌≡◌, ℕ, ◌+◌, ◌-◌, ◌<◌, ◌≤◌, Bool, cond, Option, Some, None, option_map, List, [], ◌∷◌, ◌++◌, length, sum_by, inl, inr, refl, sym, ap, ◌∙◌, arith, subst, lt-ltb}
 use Rattle.std.proofs.lemmas.Bool.{cases_eq}
 use Rattle.std.proofs.lemmas.List.FromFn.{length-map-range_with_len, sum_by-map-range_with_len_more}
+use Rattle.grib_base.proofs.Firsts.{none_each, none_more, first_split}
 use Rattle.grib_packing.specs.Misfits.{Misfit}
 use Rattle.grib_rescan.specs.declared.cause.GridCause.{GridCause}
-use Rattle.grib_base.specs.Rows.{first_fault}
-use Rattle.grib2_grids.specs.Grid.{grid_rows}
+use Rattle.grib_base.specs.Rules.{first_fault, or_later, first_among}
+use Rattle.grib2_grids.specs.Grid.{grid_rules}
 use Rattle.grib_packing.specs.declared.written.Packed.{Packed}
 use Rattle.grib2_message.specs.Assembled.{assembled_with}
 use Rattle.grib2_message.specs.Fields.{field_count, part_octets}
 use Rattle.grib_repack.specs.Lengths.{kept_length, packed_length}
-use Rattle.grib_repack.proofs.Fields.{range-at, range-more}
 use Rattle.grib_repack.proofs.Packing.{parts_more, short_more}
 use Rattle.grib_reorder.specs.declared.edit.GridEdit.{GridEdit}
 use Rattle.grib_reorder.specs.declared.fault.RescanFault.{RescanFault}
 use Rattle.grib_reorder.specs.declared.fault.RescanFault.TheVariants.{GridKind, ScanMode, OutsideBox, Increments, OutOfRange, DifferenceRange, OutputTooLong, Memory}
 use Rattle.grib_reorder.specs.Fields.{IsFieldEdited, AreFieldsEdited, IsAsLongEdited, length_with}
-use Rattle.grib_reorder.specs.Rescanned.{EditMisfit, cause_of, section_of, grid_misfit, column_misfit, edited, edited_field, edited_fields, OfGrid, OfColumn, TooLong, field_misfit, misfit_among, length_misfit, edit_misfit, or_later}
+use Rattle.grib_reorder.specs.Rescanned.{EditMisfit, cause_of, section_of, grid_misfit, column_misfit, edited, edited_field, edited_fields, OfGrid, OfColumn, TooLong, field_misfit, length_misfit, edit_misfit}
 use Rattle.grib_reorder.specs.Faults.{IsRescanFault}
 
 pub no_grid : (i : ℕ) (cause : Option GridCause) → option_map (OfGrid i) cause ≡ None → cause ≡ None
@@ -29,10 +28,6 @@ no_column i (Some misfit) none = absurd (cc)
 no_column i None none = refl
 
 -- ---- causes one after another
-
-pub none_later : (cause : Option EditMisfit) (later : Unit {0} → Option EditMisfit) → or_later cause later ≡ None → (cause ≡ None) × (later tt ≡ None)
-none_later (Some misfit) later none = absurd (cc)
-none_later None later none = (refl, none)
 
 pub fault_later : (cause : Option EditMisfit) (later : Unit {0} → Option EditMisfit) (fault : RescanFault) → IsRescanFault cause fault → IsRescanFault (or_later cause later) fault
 fault_later (Some misfit) later fault is = is
@@ -49,57 +44,22 @@ fault_later None later Memory is = tt
 pub fault_after : (cause : Option EditMisfit) (later : Unit {0} → Option EditMisfit) (fault : RescanFault) → cause ≡ None → IsRescanFault (later tt) fault → IsRescanFault (or_later cause later) fault
 fault_after cause later fault none is = subst (λ (o : Option EditMisfit). IsRescanFault (or_later o later) fault) (sym none) is
 
-pub none_after : (cause : Option EditMisfit) (later : Unit {0} → Option EditMisfit) → cause ≡ None → later tt ≡ None → or_later cause later ≡ None
-none_after cause later first then = ap (λ (o : Option EditMisfit). or_later o later) first ∙ then
-
 module _ (edit : GridEdit) (message : List ℕ) where
-  -- fields of which none fails leave the answer to those after them
-  past : (xs ys : List ℕ) → misfit_among edit message xs ≡ None → misfit_among edit message (xs ++ ys) ≡ misfit_among edit message ys
-  past [] ys none = refl
-  past (x ∷ xs) ys none =
-      let both = none_later (field_misfit edit message x) (λ _. misfit_among edit message xs) none in
-      ap (λ (o : Option EditMisfit). or_later o (λ _. misfit_among edit message (xs ++ ys))) both.0 ∙ past xs ys both.1
+  pub each_fits : (n i : ℕ) → first_among (field_misfit edit message) n 1 ≡ None → 1 ≤ i → i ≤ n → field_misfit edit message i ≡ None
+  each_fits n i none low high = none_each (field_misfit edit message) 1 n i none low (omega arith)
 
-  -- one more that does not fail
-  pub none_more : (n : ℕ) → misfit_among edit message (range_with_len 1 n) ≡ None → field_misfit edit message (n + 1) ≡ None
-      → misfit_among edit message (range_with_len 1 (n + 1)) ≡ None
-  none_more n none here =
-      ap (misfit_among edit message) (range-more n)
-      ∙ past (range_with_len 1 n) ((n + 1) ∷ []) none
-      ∙ ap (λ (o : Option EditMisfit). or_later o (λ _. None)) here
-
-  -- one that fails
-  pub fault_among : (n count : ℕ) (fault : RescanFault) → n < count → misfit_among edit message (range_with_len 1 n) ≡ None
-      → IsRescanFault (field_misfit edit message (n + 1)) fault → IsRescanFault (misfit_among edit message (range_with_len 1 count)) fault
-  fault_among n count fault low none is =
-      let rest = range_with_len (n + 2) (count - n - 1) in
-      let same : misfit_among edit message (range_with_len 1 count) ≡ misfit_among edit message ((n + 1) ∷ rest) =
-      ap (misfit_among edit message) (range-at n count low) ∙ past (range_with_len 1 n) ((n + 1) ∷ rest) none in
-      subst (λ (o : Option EditMisfit). IsRescanFault o fault) (sym same)
-      (fault_later (field_misfit edit message (n + 1)) (λ _. misfit_among edit message rest) fault is)
-
-  -- where none of some fields fails, each does not
-  each_from : (first n i : ℕ) → misfit_among edit message (range_with_len first n) ≡ None → first ≤ i → i < first + n → field_misfit edit message i ≡ None
-  each_from first zero i none low high = absurd (omega arith)
-  each_from first (suc n) i none low high =
-      let both = none_later (field_misfit edit message first) (λ _. misfit_among edit message (range_with_len (first + 1) n)) none in
-      elim (cases_eq first i) [
-        | inl same ↦ ap (field_misfit edit message) (sym same) ∙ both.0
-        | inr other ↦ each_from (first + 1) n i both.1 (omega (arith, other)) (omega arith)
-      ]
-
-  pub each_fits : (n i : ℕ) → misfit_among edit message (range_with_len 1 n) ≡ None → 1 ≤ i → i ≤ n → field_misfit edit message i ≡ None
-  each_fits n i none low high = each_from 1 n i none low (omega arith)
-
-  -- so is it the first of the message
-  pub fault_in : (n : ℕ) (fault : RescanFault) → n < field_count message → misfit_among edit message (range_with_len 1 n) ≡ None
+  -- the first field that fails is the misfit of the message
+  pub fault_in : (n : ℕ) (fault : RescanFault) → n < field_count message → first_among (field_misfit edit message) n 1 ≡ None
       → IsRescanFault (field_misfit edit message (n + 1)) fault → IsRescanFault (edit_misfit edit message) fault
   fault_in n fault low none is =
-      fault_later (misfit_among edit message (range_with_len 1 (field_count message))) (λ _. length_misfit (length (edited edit message))) fault
-      (fault_among n (field_count message) fault low none is)
+      let each = field_misfit edit message in
+      let place : n + 1 ≡ 1 + n = omega arith in
+      fault_later (first_among each (field_count message) 1) (λ _. length_misfit (length (edited edit message))) fault
+      (subst (λ (o : Option EditMisfit). IsRescanFault o fault) (sym (first_split each 1 n (field_count message) (n + 1) place low none))
+      (fault_later (each (n + 1)) (λ _. first_among each (field_count message - n - 1) (n + 1 + 1)) fault is))
 
   -- where no field fails, that it would be too long
-  pub fault_long : (total : ℕ) → misfit_among edit message (range_with_len 1 (field_count message)) ≡ None → total ≡ length (edited edit message) → 268435456 < total
+  pub fault_long : (total : ℕ) → first_among (field_misfit edit message) (field_count message) 1 ≡ None → total ≡ length (edited edit message) → 268435456 < total
       → edit_misfit edit message ≡ Some (TooLong total)
   fault_long total none is long =
       ap (λ (o : Option EditMisfit). or_later o (λ _. length_misfit (length (edited edit message)))) none
@@ -110,20 +70,20 @@ module _ (edit : GridEdit) (message : List ℕ) where
 pub fields_more : (edit : GridEdit) (message : List ℕ) (n : ℕ) (items new : List Packed) (p : Packed) → AreFieldsEdited edit message n items
     → IsFieldEdited edit message (n + 1) p → new ≡ items ++ p ∷ [] → AreFieldsEdited edit message (n + 1) new
 fields_more edit message n items new p before here is = record {
-  fit = none_more edit message n before.fit here.fits;
+  fit = none_more (field_misfit edit message) 1 n (n + 1) (omega arith) before.fit here.fits;
   are = parts_more (edited_field edit message) n items new p before.are here.is is;
   short = short_more items new p before.short here.short is;
-  rows = λ i low high. elim (cases_eq i (n + 1)) [
-    | inl same ↦ subst (λ (k : ℕ). first_fault (grid_rows (part_octets message k 3)) ≡ None) (sym same) here.rows
-    | inr other ↦ before.rows i low (omega (arith, high, other))
+  rules = λ i low high. elim (cases_eq i (n + 1)) [
+    | inl same ↦ subst (λ (k : ℕ). first_fault (grid_rules (part_octets message k 3)) ≡ None) (sym same) here.rules
+    | inr other ↦ before.rules i low (omega (arith, high, other))
   ];
 }
 
 -- what is taken of each grid where all fields fit
 pub each_taken : (edit : GridEdit) (message : List ℕ) (n : ℕ) (items : List Packed) → AreFieldsEdited edit message n items → (i : ℕ) → 1 ≤ i → i ≤ n
-    → (first_fault (grid_rows (part_octets message i 3)) ≡ None) × (cause_of edit (part_octets message i 3) ≡ None)
+    → (first_fault (grid_rules (part_octets message i 3)) ≡ None) × (cause_of edit (part_octets message i 3) ≡ None)
 each_taken edit message n items are i low high = (
-  are.rows i low high,
+  are.rules i low high,
   no_grid i (cause_of edit (part_octets message i 3))
       (none_later (grid_misfit edit message i) (λ _. column_misfit edit message i) (each_fits edit message n i are.fit low high)).0,
 )

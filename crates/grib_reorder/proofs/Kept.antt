@@ -1,8 +1,9 @@
 -- What is edited may be assembled, and its columns are the new ones.
 use Rattle.std.proofs.Common.{◌≡◌, ℕ, ◌+◌, ◌-◌, ◌<◌, ◌≤◌, Bool, true, false, cond, nat_lt, Some, None, List, length, All, slice_get, refl, sym, ap, ◌∙◌, arith, subst, ltb-false}
-use Rattle.std.specs.List.{range_with_len}
 use Rattle.std.proofs.lemmas.List.FromFn.{length-map-range_with_len, get_or-map-range_with_len}
 use Rattle.std.proofs.lemmas.Option.{slice_get_within, get_or_from_slice_get, slice_get-get_or}
+use Rattle.grib_base.proofs.Firsts.{none_later}
+use Rattle.grib_base.specs.Rules.{first_among}
 use Rattle.grib_base.specs.declared.profile.Profile.{Profile}
 use Rattle.grib_base.specs.declared.profile.Profile.TheVariants.{Open}
 use Rattle.grib2_grids.specs.Grid.{grid_points}
@@ -23,9 +24,9 @@ use Rattle.grib_repack.proofs.Columns.{may_be_packed, has_words, kind_small}
 use Rattle.grib_repack.proofs.Kept.{IsWritten, Unpacks, reads}
 use Rattle.grib_repack.proofs.Sections.{are_written, template_stands}
 use Rattle.grib_reorder.specs.declared.edit.GridEdit.{GridEdit}
-use Rattle.grib_reorder.specs.Rescanned.{TooLong, MayBeEdited, cause_of, section_of, new_column, own_target, edited_column, edited_field, edited_fields, edited, grid_misfit, column_misfit, misfit_among, length_misfit}
-use Rattle.grib_reorder.proofs.Fields.{no_grid, no_column, none_later, each_fits}
-use Rattle.grib_reorder.proofs.Grids.{stated_rows, new_grid, new_points}
+use Rattle.grib_reorder.specs.Rescanned.{TooLong, MayBeEdited, cause_of, section_of, new_column, own_target, edited_column, edited_field, edited_fields, edited, grid_misfit, column_misfit, length_misfit, field_misfit}
+use Rattle.grib_reorder.proofs.Fields.{no_grid, no_column, each_fits}
+use Rattle.grib_reorder.proofs.Grids.{stated_rules, new_grid, new_points}
 use Rattle.grib_reorder.proofs.Packs.{packs_as, accepted_alike}
 use Rattle.grib_reorder.proofs.Points.{new_packable, same_reference, same_e, same_d}
 
@@ -68,9 +69,9 @@ module _ (written : IsWritten) (unpack : Unpacks) (profile : Profile)
     (masks : (message : List ℕ) (i : ℕ) → IsMessageUnder profile message → All (λ octet. octet < 256) message → 1 ≤ i → i ≤ field_count message
     → length (field_mask message i) ≡ grid_points (part_octets message i 3))
     (edit : GridEdit) (message : List ℕ) (may : MayBeEdited profile edit message) where
-  fits : (misfit_among edit message (range_with_len 1 (field_count message)) ≡ None) × (length_misfit (length (edited edit message)) ≡ None)
+  fits : (first_among (field_misfit edit message) (field_count message) 1 ≡ None) × (length_misfit (length (edited edit message)) ≡ None)
   fits =
-      none_later (misfit_among edit message (range_with_len 1 (field_count message)))
+      none_later (first_among (field_misfit edit message) (field_count message) 1)
       (λ _. length_misfit (length (edited edit message))) may.fits
 
   -- no cause holds of the grid of field i, and its new column fits
@@ -100,15 +101,15 @@ module _ (written : IsWritten) (unpack : Unpacks) (profile : Profile)
       let long = masks message i may.accepted may.are_octets low high in
       let own = packs_as (part_octets message i 5) (grid_points s3) here.packing in
       let free = uncaused i low high in
-      let rows = stated_rows edit Open s3 here.grid free in
-      let packable = new_packable edit s3 (column_of message i) may.stands rows free (may_be_packed message i here long) in
+      let rules = stated_rules edit Open s3 here.grid free in
+      let packable = new_packable edit s3 (column_of message i) may.stands rules free (may_be_packed message i here long) in
       let none : first_misfit target column.points ≡ None = no_column i (first_misfit target column.points) (field_fits i low high).1 in
       let has : HasPacked target column kind p.section5 p.section6 p.section7 =
       written target column kind packable (new_words edit s3 (column_of message i) (has_words message i may.are_octets)) own.target (kind_small message i may.are_octets) none in
       record {
         has = has;
         unpacked = unpack target own.target column kind p.section5 p.section6 p.section7 packable none has;
-        as_long = new_points edit s3 (column_of message i) may.stands rows free;
+        as_long = new_points edit s3 (column_of message i) may.stands rules free;
         template = template_stands target column kind p.section5 p.section6 p.section7 has ∙ own.template;
       }
 

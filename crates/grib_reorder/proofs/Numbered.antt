@@ -7,7 +7,7 @@ use Rattle.grib_packing.specs.Column.{points_with_mask}
 use Rattle.grib_packing.specs.Entries.{entries_of}
 use Rattle.grib_packing.specs.Packing.{packing_template, value_count, bit_width}
 use Rattle.grib_packing.proofs.Packings.{entries_of-simple}
-use Rattle.grib_simple.proofs.Masked.{with_full_mask}
+use Rattle.grib_simple_reading.proofs.Masked.{with_full_mask}
 use Rattle.grib_rescan.proofs.Added.{scaled}
 
 module _ (s5 s7 : List ℕ) (template : packing_template s5 ≡ 0) where

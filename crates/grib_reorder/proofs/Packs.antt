@@ -1,19 +1,19 @@
 -- Packing a column as its field is packed.
 use Rattle.std.proofs.Common.{◌≡◌, ◌≢◌, ◌⊎◌, ℕ, ◌-◌, ◌^◌, ◌≤◌, Bool, true, false, not, cond, ◌&&◌, ◌||◌, ◌==◌, Option, Some, None, List, [], ◌∷◌, length, map, drop, pos, inl, inr, refl, sym, ap, ap₂, ◌∙◌, arith, subst, eqb-true, ne_eqb, nat_lt, replicate, zero, suc}
 use Rattle.std.specs.List.{list_any}
-use Rattle.std.proofs.lemmas.Bool.{cases_eq, not-false}
+use Rattle.std.proofs.lemmas.Bool.{cases_eq, not-false, or_parts}
 use Rattle.std.proofs.lemmas.Bool.Decides.{nat_tests}
 use Rattle.grib_bits.specs.Bits.{bits}
 use Rattle.grib_bits.specs.Octets.{octets}
 use Rattle.grib_bits.specs.Plain.{plain}
-use Rattle.grib_base.specs.Rows.{choose, first_fault}
+use Rattle.grib_base.specs.Rules.{choose, first_fault}
 use Rattle.grib_base.specs.declared.profile.Profile.{Profile}
 use Rattle.grib_base.specs.declared.profile.Profile.TheVariants.{Stated, Open}
 use Rattle.grib_packing.specs.declared.column.Point.{Point}
 use Rattle.grib_packing.specs.declared.column.Point.TheVariants.{Scaled}
-use Rattle.grib_packing.specs.Coded.{is_coded, is_block, coded_rows, coded_numbers, point_of}
+use Rattle.grib_packing.specs.Coded.{is_coded, is_block, coded_rules, coded_numbers, point_of}
 use Rattle.grib_packing.specs.Column.{points_with_mask}
-use Rattle.grib_packing.specs.Complex.{complex_rows, difference_order}
+use Rattle.grib_packing.specs.Complex.{complex_rules, difference_order}
 use Rattle.grib_packing.specs.Entries.{packing_fault, packing_fault_under, packing_of, is_stated_packing, entries_of}
 use Rattle.grib_packing.specs.Misfits.{Target, ToSimple, ToComplex, ToSpatial, ToCoded, template_of, Misfit, SecondaryMissing, OutOfRange, DifferenceRange, first_misfit, first_of, is_missing2, plain_misfit}
 use Rattle.grib_packing.specs.Packing.{packing_template, bit_width, value_count}
@@ -26,7 +26,7 @@ use Rattle.grib2_message.specs.Fields.{part_octets, field_mask, column_of}
 use Rattle.grib_reorder.specs.Fields.{IsBitmapTemplate}
 use Rattle.grib_reorder.specs.Rescanned.{own_blocks, own_target}
 
--- ---- the template and the order of a Section 5 that no row refuses
+-- ---- the template and the order of a Section 5 that no rule refuses
 
 target_by : ℕ → Target → ℕ → Target
 target_by template blocks order = cond (template == 0) ToSimple (cond (template == 2) ToComplex (cond (template == 42) blocks (ToSpatial order)))
@@ -45,9 +45,9 @@ both_known spatial o e is = elim (cases_eq o 1) [
   not_so true false false e is b_is c_is = absurd (cc)
   not_so false b c e is b_is c_is = absurd (cc)
 
--- the blocks of a Section 5 that no row refuses
-blocks_stand : (s5 : List ℕ) → first_fault (coded_rows s5) ≡ None → IsTarget (own_blocks s5)
-blocks_stand s5 none = let rows = passes_from_none (coded_rows s5) none in by_choice (is_coded s5) (octets s5 23 23) (octets s5 24 25) rows.1.0 rows.1.1.0 where
+-- the blocks of a Section 5 that no rule refuses
+blocks_stand : (s5 : List ℕ) → first_fault (coded_rules s5) ≡ None → IsTarget (own_blocks s5)
+blocks_stand s5 none = let rules = passes_from_none (coded_rules s5) none in by_choice (is_coded s5) (octets s5 23 23) (octets s5 24 25) rules.1.0 rules.1.1.0 where
   within : (interval : ℕ) → ((interval == 0) || nat_lt 4096 interval) ≡ false → (1 ≤ interval) × (interval ≤ 4096)
   within interval e = (grind (arith, nat_tests), grind (arith, nat_tests))
 
@@ -92,7 +92,7 @@ packs_as s5 points none =
         | inl complex ↦ elim complex [
           | inl is ↦ by_template s5 2 is passes.long tt refl (λ e. absurd (omega (arith, e))) (λ not_0 not_2 not_42. absurd (not_2 refl))
           | inr is ↦
-              let more = passes_from_none (complex_rows s5) (sym (packing_fault-complex s5 points shared (inr is)) ∙ none) in
+              let more = passes_from_none (complex_rules s5) (sym (packing_fault-complex s5 points shared (inr is)) ∙ none) in
               let spatial : (packing_template s5 == 3) ≡ true = ap (λ (t : ℕ). t == 3) is in
               let order : difference_order s5 ≡ octets s5 48 48 = ap (λ (t : ℕ). cond (t == 3) (octets s5 48 48) 0) is in
               let long : 49 ≤ length s5 = subst (λ (t : ℕ). (packing_of t).least ≤ length s5) is passes.least in
@@ -107,7 +107,7 @@ packs_as s5 points none =
 
 -- ---- under a profile
 
--- a Section 5 that no row refuses is accepted by a profile that accepts one with its template
+-- a Section 5 that no rule refuses is accepted by a profile that accepts one with its template
 pub accepted_alike : (profile : Profile) (s other : List ℕ) (points others : ℕ) → packing_template other ≡ packing_template s
     → packing_fault_under profile s points ≡ None → packing_fault other others ≡ None → packing_fault_under profile other others ≡ None
 accepted_alike Open s other points others same accepted none = accepted_open other others none
@@ -121,16 +121,12 @@ none_scaled : (xs : List ℕ) → list_any is_missing2 (map (λ x. Scaled (pos x
 none_scaled [] = refl
 none_scaled (x ∷ xs) = none_scaled xs
 
-parts_false : (a b : Bool) → (a || b) ≡ false → (a ≡ false) × (b ≡ false)
-parts_false true b e = absurd (cc)
-parts_false false b e = (refl, e)
-
 none_with : (mask : List Bool) (entries : List Point) → list_any is_missing2 entries ≡ false → list_any is_missing2 (points_with_mask mask entries) ≡ false
 none_with [] entries none = refl
 none_with (false ∷ mask) entries none = none_with mask entries none
 none_with (true ∷ mask) [] none = none_with mask [] none
 none_with (true ∷ mask) (entry ∷ entries) none =
-    let both = parts_false (is_missing2 entry) (list_any is_missing2 entries) none in
+    let both = or_parts (is_missing2 entry) (list_any is_missing2 entries) none in
     ap₂ (λ (a b : Bool). a || b) both.0 (none_with mask entries both.1)
 
 none_same : (count : ℕ) → list_any is_missing2 (replicate count (point_of 0)) ≡ false

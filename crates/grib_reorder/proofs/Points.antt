@@ -1,11 +1,12 @@
 -- The points of a new column are points of the old one.
-use Rattle.std.proofs.Common.{◌≡◌, ℕ, zero, suc, ◌%◌, Bool, true, false, ◌||◌, ◌==◌, None, List, [], ◌∷◌, ◌++◌, map, refl, ap, ap₂, ◌∙◌, arith}
+use Rattle.std.proofs.Common.{◌≡◌, ℕ, zero, suc, ◌%◌, Bool, false, ◌||◌, ◌==◌, None, List, [], ◌∷◌, ◌++◌, map, refl, ap, ap₂, ◌∙◌, arith}
 use Rattle.std.specs.List.{list_any, range_with_len, flat_map}
+use Rattle.std.proofs.lemmas.Bool.{or_parts}
 use Rattle.grib_bits.specs.Binary32.{ieee_exponent}
 use Rattle.grib_bits.specs.Octets.{octets}
-use Rattle.grib_base.specs.Rows.{first_fault}
+use Rattle.grib_base.specs.Rules.{first_fault}
 use Rattle.grib_base.specs.declared.profile.Profile.TheVariants.{Stated}
-use Rattle.grib2_grids.specs.Grid.{grid_rows}
+use Rattle.grib2_grids.specs.Grid.{grid_rules}
 use Rattle.grib_packing.specs.declared.column.Column.{Column}
 use Rattle.grib_packing.specs.declared.column.Point.{Point}
 use Rattle.grib_packing.specs.declared.column.Point.TheVariants.{Missing}
@@ -19,22 +20,18 @@ use Rattle.grib2_message.proofs.Masks.{points_bounds}
 use Rattle.grib_reorder.specs.declared.edit.GridEdit.{GridEdit}
 use Rattle.grib_reorder.specs.declared.edit.GridEdit.TheVariants.{Rescan, Crop, Within}
 use Rattle.grib_reorder.specs.Rescanned.{Stands, cause_of, section_of, new_column}
-use Rattle.grib_reorder.proofs.Grids.{new_rows, new_points}
-
-parts_false : (a b : Bool) → (a || b) ≡ false → (a ≡ false) × (b ≡ false)
-parts_false true b e = absurd (cc)
-parts_false false b e = (refl, e)
+use Rattle.grib_reorder.proofs.Grids.{new_rules, new_points}
 
 module _ (test : Point → Bool) (missing : test Missing ≡ false) where
   none_at : (points : List Point) (n : ℕ) → list_any test points ≡ false → test (point points n) ≡ false
   none_at [] n none = missing
-  none_at (p ∷ points) zero none = (parts_false (test p) (list_any test points) none).0
-  none_at (p ∷ points) (suc n) none = none_at points n (parts_false (test p) (list_any test points) none).1
+  none_at (p ∷ points) zero none = (or_parts (test p) (list_any test points) none).0
+  none_at (p ∷ points) (suc n) none = none_at points n (or_parts (test p) (list_any test points) none).1
 
   none_joined : (xs ys : List Point) → list_any test xs ≡ false → list_any test ys ≡ false → list_any test (xs ++ ys) ≡ false
   none_joined [] ys a b = b
   none_joined (x ∷ xs) ys a b =
-      let both = parts_false (test x) (list_any test xs) a in
+      let both = or_parts (test x) (list_any test xs) a in
       ap₂ (λ (p q : Bool). p || q) both.0 (none_joined xs ys both.1 b)
 
   none_in_row : (points : List Point) (f : ℕ → ℕ) (places : List ℕ) → list_any test points ≡ false → list_any test (map (λ i. point points (f i)) places) ≡ false
@@ -78,10 +75,10 @@ same_d (Crop area) s column = refl
 same_d (Within bounds) s column = refl
 
 -- so the new column may be packed where the old one may
-pub new_packable : (edit : GridEdit) (s : List ℕ) (column : Column) → Stands edit → first_fault (grid_rows s) ≡ None → cause_of edit s ≡ None
+pub new_packable : (edit : GridEdit) (s : List ℕ) (column : Column) → Stands edit → first_fault (grid_rules s) ≡ None → cause_of edit s ≡ None
     → MayBePacked column → MayBePacked (new_column edit s column)
 new_packable edit s column stands none uncaused may =
-    let bounds = points_bounds Stated (section_of edit s) (new_rows edit s stands none uncaused) in
+    let bounds = points_bounds Stated (section_of edit s) (new_rules edit s stands none uncaused) in
     let size = new_points edit s column stands none uncaused in
     record {
       some = omega (arith, size, bounds.0);

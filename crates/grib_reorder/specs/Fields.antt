@@ -1,8 +1,8 @@
 -- What is known of fields that are edited.
 use Rattle.std.specs.Prelude.{◌≡◌, ◌⊎◌, ℕ, ◌+◌, ◌≤◌, false, None, List, length, map, sum_by, All}
 use Rattle.std.specs.List.{range_with_len, list_any}
-use Rattle.grib_base.specs.Rows.{first_fault}
-use Rattle.grib2_grids.specs.Grid.{grid_rows}
+use Rattle.grib_base.specs.Rules.{first_fault, first_among}
+use Rattle.grib2_grids.specs.Grid.{grid_rules}
 use Rattle.grib_packing.specs.declared.column.Column.{Column}
 use Rattle.grib_packing.specs.declared.written.Packed.{Packed}
 use Rattle.grib_packing.specs.Misfits.{is_missing2}
@@ -12,7 +12,7 @@ use Rattle.grib2_message.specs.Assembled.{IsShort}
 use Rattle.grib2_message.specs.Fields.{field_count, part_octets}
 use Rattle.grib_repack.specs.Lengths.{kept_length, packed_length}
 use Rattle.grib_reorder.specs.declared.edit.GridEdit.{GridEdit}
-use Rattle.grib_reorder.specs.Rescanned.{section_of, grid_misfit, field_misfit, misfit_among, edited, edited_column, edited_field}
+use Rattle.grib_reorder.specs.Rescanned.{section_of, grid_misfit, field_misfit, edited, edited_column, edited_field}
 
 -- simple packing and CCSDS packing tell the missing points by a bitmap alone, so that none is secondary missing
 abbrev pub IsBitmapTemplate : ℕ → Type 0
@@ -24,21 +24,21 @@ pub record IsColumnEdited (edit : GridEdit) (message : List ℕ) (i : ℕ) (colu
   pub is : column ≡ edited_column edit message i
   pub may_be_packed : MayBePacked column
   pub no_secondary : IsBitmapTemplate (packing_template (part_octets message i 5)) → list_any is_missing2 column.points ≡ false
-  pub rows : first_fault (grid_rows (part_octets message i 3)) ≡ None
+  pub rules : first_fault (grid_rules (part_octets message i 3)) ≡ None
 
 -- Sections 5, 6 and 7 of field i
 pub record IsFieldEdited (edit : GridEdit) (message : List ℕ) (i : ℕ) (packed : Packed) : Type 0 where
   pub fits : field_misfit edit message i ≡ None
   pub is : packed ≡ edited_field edit message i
   pub short : IsShort packed
-  pub rows : first_fault (grid_rows (part_octets message i 3)) ≡ None
+  pub rules : first_fault (grid_rules (part_octets message i 3)) ≡ None
 
 -- those of the first n fields
 pub record AreFieldsEdited (edit : GridEdit) (message : List ℕ) (n : ℕ) (packed : List Packed) : Type 0 where
-  pub fit : misfit_among edit message (range_with_len 1 n) ≡ None
+  pub fit : first_among (field_misfit edit message) n 1 ≡ None
   pub are : packed ≡ map (edited_field edit message) (range_with_len 1 n)
   pub short : All IsShort packed
-  pub rows : (i : ℕ) → 1 ≤ i → i ≤ n → first_fault (grid_rows (part_octets message i 3)) ≡ None
+  pub rules : (i : ℕ) → 1 ≤ i → i ≤ n → first_fault (grid_rules (part_octets message i 3)) ≡ None
 
 -- how many octets the message has with the new sections of the first n fields: those that stay, and theirs
 abbrev pub length_with : GridEdit → List ℕ → ℕ → ℕ

@@ -4,6 +4,7 @@
 use Rattle.std.specs.Prelude.{◌≡◌, ℕ, ◌<◌, ◌≤◌, cond, Option, Some, None, List, [], ◌∷◌, length, map, nat_lt, option_map, All, ◌==◌}
 use Rattle.std.specs.List.{range_with_len}
 use Rattle.grib_bits.specs.Octets.{octets}
+use Rattle.grib_base.specs.Rules.{or_later, first_among}
 use Rattle.grib_base.specs.declared.profile.Profile.{Profile}
 use Rattle.grib_packing.specs.declared.column.Column.{Column}
 use Rattle.grib_packing.specs.Coded.{is_coded}
@@ -79,11 +80,6 @@ pub data EditMisfit : Type 0 where
   OfColumn : ℕ → Misfit → EditMisfit
   TooLong : ℕ → EditMisfit
 
--- a later cause counts where there is no earlier one, and is not looked for elsewhere
-abbrev pub or_later : Option EditMisfit → (Unit {0} → Option EditMisfit) → Option EditMisfit
-or_later (Some misfit) later = Some misfit
-or_later None later = later tt
-
 -- of field i, that of its grid, else that of its new column
 abbrev pub grid_misfit : GridEdit → List ℕ → ℕ → Option EditMisfit
 grid_misfit edit message i = option_map (OfGrid i) (cause_of edit (part_octets message i 3))
@@ -95,11 +91,6 @@ column_misfit edit message i =
 abbrev pub field_misfit : GridEdit → List ℕ → ℕ → Option EditMisfit
 field_misfit edit message i = or_later (grid_misfit edit message i) (λ _. column_misfit edit message i)
 
--- the first misfit of some fields, in their order
-abbrev pub misfit_among : GridEdit → List ℕ → List ℕ → Option EditMisfit
-misfit_among edit message [] = None
-misfit_among edit message (i ∷ fields) = or_later (field_misfit edit message i) (λ _. misfit_among edit message fields)
-
 -- a message has 268,435,456 octets at most
 abbrev pub length_misfit : ℕ → Option EditMisfit
 length_misfit l = cond (nat_lt 268435456 l) (Some (TooLong l)) None
@@ -107,7 +98,7 @@ length_misfit l = cond (nat_lt 268435456 l) (Some (TooLong l)) None
 -- the first misfit: that of a field, else that of the whole
 abbrev pub edit_misfit : GridEdit → List ℕ → Option EditMisfit
 edit_misfit edit message =
-    or_later (misfit_among edit message (range_with_len 1 (field_count message)))
+    or_later (first_among (field_misfit edit message) (field_count message) 1)
     (λ _. length_misfit (length (edited edit message)))
 
 -- a message that a profile accepts, whose values can be read and of which nothing fails to fit

@@ -1,8 +1,8 @@
 //! What is made of a grid.
 
 ghost use Rattle.std.specs.Prelude.{◌≡◌, ◌++◌, length, true, None, IfOk};
-ghost use Rattle.grib_base.specs.Rows.{first_fault};
-ghost use Rattle.grib2_grids.specs.Grid.{grid_rows, grid_points};
+ghost use Rattle.grib_base.specs.Rules.{first_fault};
+ghost use Rattle.grib2_grids.specs.Grid.{grid_rules, grid_points};
 ghost use Rattle.grib_rescan.specs.Sections.{HasTemplate};
 ghost use Rattle.grib_rescan.specs.Bounds.{area_within};
 ghost use Rattle.grib_rescan.specs.Causes.{HasWithin};
@@ -52,7 +52,7 @@ impl GridEdit {
     /// There is no memory for it.
     fn section(&self, alloc: Global, section3: &[u8]) -> Result<Vec<u8>, AllocError>
         requires stands { Stands self.now }
-        requires accepted { first_fault (grid_rows section3.now) ≡ None }
+        requires accepted { first_fault (grid_rules section3.now) ≡ None }
         requires uncaused { cause_of self.now section3.now ≡ None }
         ensures { IfOk result (λ new. new.items ≡ section_of self.now section3.now) }
     {
@@ -76,7 +76,7 @@ impl GridEdit {
         column: Column,
     ) -> Result<Column, AllocError>
         requires stands { Stands self.now }
-        requires accepted { first_fault (grid_rows section3.now) ≡ None }
+        requires accepted { first_fault (grid_rules section3.now) ≡ None }
         requires uncaused { cause_of self.now section3.now ≡ None }
         requires length { length column.points ≡ grid_points section3.now }
         ensures { IfOk result (λ new. new ≡ new_column self.now section3.now column) }
@@ -98,7 +98,7 @@ impl GridEdit {
     /// packed numbers: a subarea is cut out, or the points of a column are consecutive and go the same way in all of
     /// them.
     pub(crate) fn takes_numbers(&self, section3: &[u8]) -> bool
-        requires accepted { first_fault (grid_rows section3.now) ≡ None }
+        requires accepted { first_fault (grid_rules section3.now) ≡ None }
         requires uncaused { cause_of self.now section3.now ≡ None }
         ensures { result ≡ takes_numbers self.now section3.now }
     {
@@ -121,7 +121,7 @@ impl GridEdit {
         field: &PlainField<'_>,
     ) -> Result<Column, AllocError>
         requires stands { Stands self.now }
-        requires accepted { first_fault (grid_rows section3.now) ≡ None }
+        requires accepted { first_fault (grid_rules section3.now) ≡ None }
         requires uncaused { cause_of self.now section3.now ≡ None }
         requires takes { takes_numbers self.now section3.now ≡ true }
         requires field { PlainStands (grid_points section3.now) field.now }
@@ -155,7 +155,7 @@ fn found(section3: &[u8], bounds: &Bounds) -> Area
 }
 
 impl NewGrid for GridEdit {
-    ghost takes = { λ edit s. Stands edit × (first_fault (grid_rows s) ≡ None) × (cause_of edit s ≡ None) };
+    ghost takes = { λ edit s. Stands edit × (first_fault (grid_rules s) ≡ None) × (cause_of edit s ≡ None) };
 
     ghost becomes = { section_of };
 

@@ -4,14 +4,13 @@ ghost use Rattle.std.specs.Prelude.{◌≡◌, ◌≤◌, ℕ, None, length};
 ghost use Rattle.grib_bits.specs.Octets.{octets};
 ghost use Rattle.grib_packing.specs.Entries.{packing_fault};
 ghost use Rattle.grib_packing.specs.Misfits.{ToCoded};
-ghost use Rattle.grib_packing.specs.Written.{IsPacked, MayBePacked};
+ghost use Rattle.grib_packing.specs.Targets.{target_of};
+ghost use Rattle.grib_packing.specs.Written.{IsPacked, IsTarget, MayBePacked};
 ghost use Rattle.grib_reorder.specs.Rescanned.{own_blocks, own_target};
 
 use grib_bits::{u8_at, u16_at};
-use grib_ccsds::pack_coded;
-use grib_complex::{ComplexPacking, SpatialPacking};
-use grib_packing::{Column, PackFault, Packed, Packing};
-use grib_simple::SimplePacking;
+use grib_packed::pack_column;
+use grib_packing::{Column, PackFault, Packed, RepackTarget};
 use std::alloc::Global;
 
 /// Sections 5, 6 and 7 of a column, packed as this Section 5 says: by its template and, for differences, their
@@ -26,15 +25,28 @@ pub(crate) fn pack_as(alloc: Global, section5: &[u8], column: &Column) -> Result
     requires column { MayBePacked column.now }
     ensures { IsPacked (own_target section5.now) column.now (octets section5.now 21 21) result }
 {
-    let kind = u8_at(section5, 21);
+    let target = own_target_of(section5);
+    match pack_column(alloc, column, u8_at(section5, 21), target, None) {
+        Ok(Some(packed)) => Ok(packed),
+        Ok(None) => unreachable!(),
+        Err(fault) => Err(fault),
+    }
+}
+
+/// The packing that a Section 5 says.
+fn own_target_of(section5: &[u8]) -> RepackTarget
+    requires accepted { (points : ℕ) × (packing_fault section5.now points ≡ None) }
+    ensures own { target_of result ≡ own_target section5.now }
+    ensures known { IsTarget (target_of result) }
+{
     match u16_at(section5, 10) {
-        0 => SimplePacking.pack(alloc, column, kind),
-        2 => ComplexPacking.pack(alloc, column, kind),
+        0 => RepackTarget::Simple,
+        2 => RepackTarget::Complex,
         42 => {
             let (block, interval) = blocks_of(section5);
-            pack_coded(alloc, column, kind, block, interval)
+            RepackTarget::Coded { block, interval }
         }
-        _ => SpatialPacking::new(u8_at(section5, 48)).pack(alloc, column, kind),
+        _ => RepackTarget::Spatial(u8_at(section5, 48)),
     }
 }
 

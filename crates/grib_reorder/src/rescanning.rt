@@ -21,7 +21,7 @@ use grib2_message::ReadableMessage;
 use std::alloc::Global;
 
 /// The message with the points of its grids in the order of scanning octet 0: rows from the north, and points
-/// of a row from the west. Sections 5, 6 and 7 of each field are packed anew as the field is packed, each
+/// of a rule from the west. Sections 5, 6 and 7 of each field are packed anew as the field is packed, each
 /// Section 3 has the first corner in the north west, and all other octets but the total length are as before. It
 /// holds the message, the new sections and one column at a time; two where the points of a column of the
 /// grid are consecutive, unless the field is in simple packing without missing points. The new sections that it holds

@@ -3,7 +3,7 @@ use Rattle.std.proofs.Common.{◌≡◌, ◌≢◌, ◌⊎◌, inl, inr, ℕ, �
 use Rattle.std.specs.declared.result.Result.{Result}
 use Rattle.grib_base.specs.declared.fault.ReadFault.{ReadFault}
 use Rattle.grib_base.specs.declared.fault.ReadFault.TheVariants.{Refused, Memory}
-use Rattle.grib_base.specs.Rows.{located}
+use Rattle.grib_base.specs.Rules.{located}
 use Rattle.grib_bitmap.specs.Mask.{bitmap_indicator, mask_of}
 use Rattle.grib_packing.specs.declared.column.Column.{Column}
 use Rattle.grib_packing.specs.Entries.{data_fault, packing_fault}

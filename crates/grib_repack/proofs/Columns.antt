@@ -1,6 +1,7 @@
 -- The columns of an accepted message whose values can be read may be packed.
 use Rattle.std.proofs.Common.{◌≡◌, ℕ, ◌^◌, ◌<◌, ◌≤◌, List, length, All, refl, sym, ap, subst, arith, ◌∙◌}
 use Rattle.grib_bits.specs.Octets.{octets}
+use Rattle.grib_base.proofs.Places.{any_of_none}
 use Rattle.grib_base.specs.declared.profile.Profile.TheVariants.{Open}
 use Rattle.grib2_grids.specs.Grid.{grid_points}
 use Rattle.grib_packing.specs.declared.column.Column.{Column}
@@ -13,7 +14,7 @@ use Rattle.grib2_message.specs.Message.{FieldReads}
 use Rattle.grib2_message.proofs.Masks.{points_bounds, points_of_mask}
 use Rattle.grib_repack.specs.Repacked.{kind_of}
 use Rattle.grib_packing.proofs.Packings.{packing_passes}
-use Rattle.grib_repack.proofs.Ranges.{entries_within, none_with_mask, any_of_none}
+use Rattle.grib_repack.proofs.Ranges.{entries_within, none_with_mask}
 use Rattle.grib_repack.proofs.Octets.{part_of_octets, octets_few}
 
 -- a column of such a field with 1 to 33,554,432 points

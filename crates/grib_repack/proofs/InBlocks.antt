@@ -1,41 +1,37 @@
 -- The numbers of accepted blocks are within the range of the columns that are packed.
-use Rattle.std.proofs.Common.{◌≡◌, ◌⊎◌, inl, inr, ℕ, ◌+◌, ◌-◌, ◌%◌, ◌^◌, ◌<◌, ◌≤◌, ◌==◌, ◌||◌, ◌&&◌, Bool, true, false, not, Option, Some, None, List, [], ◌∷◌, length, drop, map, replicate, All, nat_lt, refl, sym, ap, ◌∙◌, arith, subst, le-ltb, eqb-true, pow_mono}
-use Rattle.std.proofs.lemmas.Bool.{not-false}
+use Rattle.std.proofs.Common.{◌≡◌, inl, inr, ℕ, ◌+◌, ◌-◌, ◌%◌, ◌^◌, ◌<◌, ◌≤◌, ◌==◌, ◌||◌, ◌&&◌, Bool, true, false, not, Option, Some, None, List, [], ◌∷◌, length, drop, map, replicate, All, nat_lt, refl, sym, ap, ◌∙◌, arith, subst, le-ltb, eqb-true, pow_mono}
+use Rattle.std.proofs.lemmas.Bool.{not-false, or_cases}
 use Rattle.std.proofs.lemmas.Bool.Decides.{nat_tests}
 use Rattle.std.proofs.lemmas.List.Elements.{All-head, All-tail}
 use Rattle.grib_bits.specs.Bits.{bits}
-use Rattle.grib_base.specs.Rows.{choose}
+use Rattle.grib_base.specs.Rules.{choose}
 use Rattle.grib_base.proofs.Passing.{passes_from_none}
 use Rattle.grib_base.proofs.Places.{NoneOf}
 use Rattle.grib_coding.specs.declared.fault.BlockFault.{BlockFault}
 use Rattle.grib_coding.specs.declared.fault.BlockFault.TheVariants.{Short, Block, Value}
 use Rattle.grib_coding.specs.Coding.{greatest}
 use Rattle.grib_block_reading.proofs.Within.{told_within}
-use Rattle.grib_packing.specs.Coded.{block_refusal, coded_data_fault, coded_numbers, coded_rows, coding_of, decoded_of, are_flags_refused, is_block, is_coded, point_of}
+use Rattle.grib_packing.specs.Coded.{block_refusal, coded_data_fault, coded_numbers, coded_rules, coding_of, decoded_of, are_flags_refused, is_block, is_coded, point_of}
 use Rattle.grib_packing.specs.Entries.{data_fault, is_out_of_range, packing_fault}
 use Rattle.grib_packing.specs.Packing.{packing_template, bit_width, value_count}
 use Rattle.grib_packing.proofs.Packings.{data_fault-coded, most-coded, packing_fault-coded, packing_passes, packing_shared}
 
--- ---- what the rows say
+-- ---- what the rules say
 
 second_by : (a b : Bool) → a ≡ true → (a && b) ≡ false → b ≡ false
 second_by true b is none = none
 second_by false b is none = absurd (cc)
-
-one_true : (a b : Bool) → (a || b) ≡ true → (a ≡ true) ⊎ (b ≡ true)
-one_true true b is = inl refl
-one_true false b is = inr is
 
 some_interval : (n : ℕ) → ((n == 0) || nat_lt 4096 n) ≡ false → 1 ≤ n
 some_interval n none = grind (arith, nat_tests)
 
 -- a block has an even count of values
 even_block : (j : ℕ) → is_block j ≡ true → (2 ≤ j) × (j % 2 ≡ 0)
-even_block j is = elim (one_true (j == 8) ((j == 16) || ((j == 32) || (j == 64))) is) [
+even_block j is = elim (or_cases (j == 8) ((j == 16) || ((j == 32) || (j == 64))) is) [
   | inl eight ↦ even 8 j (eqb-true j 8 eight) (omega arith) refl
-  | inr more ↦ elim (one_true (j == 16) ((j == 32) || (j == 64)) more) [
+  | inr more ↦ elim (or_cases (j == 16) ((j == 32) || (j == 64)) more) [
     | inl sixteen ↦ even 16 j (eqb-true j 16 sixteen) (omega arith) refl
-    | inr last ↦ elim (one_true (j == 32) (j == 64) last) [
+    | inr last ↦ elim (or_cases (j == 32) (j == 64) last) [
       | inl half ↦ even 32 j (eqb-true j 32 half) (omega arith) refl
       | inr most ↦ even 64 j (eqb-true j 64 most) (omega arith) refl
     ]
@@ -63,9 +59,9 @@ module _ (s5 s7 : List ℕ) (points : ℕ) (coded : packing_template s5 ≡ 42) 
   numbers_small : All (λ number. number ≤ greatest (coding_of s5)) (coded_numbers s5 s7)
   numbers_small =
       let c = coding_of s5 in
-      let rows = passes_from_none (coded_rows s5) (sym (packing_fault-coded s5 points (packing_shared s5 points accepted) coded) ∙ accepted) in
-      let block = even_block c.block (not-false (is_block c.block) (second_by (is_coded s5) (not (is_block c.block)) some rows.1.0)) in
-      let interval = some_interval c.interval (second_by (is_coded s5) ((c.interval == 0) || nat_lt 4096 c.interval) some rows.1.1.0) in
+      let rules = passes_from_none (coded_rules s5) (sym (packing_fault-coded s5 points (packing_shared s5 points accepted) coded) ∙ accepted) in
+      let block = even_block c.block (not-false (is_block c.block) (second_by (is_coded s5) (not (is_block c.block)) some rules.1.0)) in
+      let interval = some_interval c.interval (second_by (is_coded s5) ((c.interval == 0) || nat_lt 4096 c.interval) some rules.1.1.0) in
       let refusal : block_refusal (length s7) (decoded_of s5 s7).fault ≡ None =
       ap (λ (b : Bool). choose b (λ _. block_refusal (length s7) (decoded_of s5 s7).fault) (λ _. None)) (sym some) ∙ (sym (data_fault-coded s5 s7 coded) ∙ values) in
       told_within c (value_count s5) block.0 block.1 interval (bits (drop 5 s7)) (no_refusal (length s7) (decoded_of s5 s7).fault refusal)

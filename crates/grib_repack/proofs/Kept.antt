@@ -1,8 +1,9 @@
 -- What is repacked may be assembled, and its columns are those that were packed.
 use Rattle.std.proofs.Common.{◌≡◌, ℕ, ◌+◌, ◌-◌, ◌<◌, ◌≤◌, ◌⊎◌, Bool, true, false, cond, nat_lt, Option, Some, None, option_map, List, length, All, slice_get, refl, sym, ap, ◌∙◌, arith, subst, ltb-false}
-use Rattle.std.specs.List.{range_with_len}
 use Rattle.std.proofs.lemmas.List.FromFn.{length-map-range_with_len, get_or-map-range_with_len}
 use Rattle.std.proofs.lemmas.Option.{slice_get_within, get_or_from_slice_get, slice_get-get_or}
+use Rattle.grib_base.proofs.Firsts.{none_later}
+use Rattle.grib_base.specs.Rules.{first_among}
 use Rattle.grib_base.specs.declared.profile.Profile.{Profile}
 use Rattle.grib_base.specs.declared.profile.Profile.TheVariants.{Open}
 use Rattle.grib2_grids.specs.Grid.{grid_points}
@@ -19,8 +20,8 @@ use Rattle.grib2_message.specs.Fields.{field_count, part_octets, field_mask, col
 use Rattle.grib2_message.specs.Message.{IsMessageUnder, FieldPassesUnder, FieldReads, HasValues}
 use Rattle.grib2_message.specs.Assembled.{PartsPassUnder, MayBeAssembledUnder}
 use Rattle.grib2_message.proofs.Opened.{field_opened, field_read}
-use Rattle.grib_repack.specs.Repacked.{OutputTooLong, MayBeRepacked, kind_of, packed_field, packed_fields, repacked, in_field, misfit_among, length_misfit}
-use Rattle.grib_repack.proofs.Fields.{none_later, each_fits}
+use Rattle.grib_repack.specs.Repacked.{OutputTooLong, MayBeRepacked, kind_of, packed_field, packed_fields, repacked, in_field, length_misfit, field_misfit}
+use Rattle.grib_repack.proofs.Fields.{each_fits}
 use Rattle.grib_repack.proofs.Sections.{are_written, accepted_under}
 use Rattle.grib_repack.proofs.Columns.{column_long, may_be_packed, has_words, kind_small}
 
@@ -93,9 +94,9 @@ module _ (written : IsWritten) (unpack : Unpacks) (profile : Profile)
     pub unpacked : UnpackTo (column_of message i) (packed_field target message i).section5 (packed_field target message i).section6 (packed_field target message i).section7
     pub as_long : length (column_of message i).points ≡ grid_points (part_octets message i 3)
 
-  fits : (misfit_among target message (range_with_len 1 (field_count message)) ≡ None) × (length_misfit (length (repacked target message)) ≡ None)
+  fits : (first_among (field_misfit target message) (field_count message) 1 ≡ None) × (length_misfit (length (repacked target message)) ≡ None)
   fits =
-      none_later (misfit_among target message (range_with_len 1 (field_count message)))
+      none_later (first_among (field_misfit target message) (field_count message) 1)
       (λ _. length_misfit (length (repacked target message))) may.fits
 
   field : (i : ℕ) → 1 ≤ i → i ≤ field_count message → Field i

@@ -7,7 +7,7 @@ use Rattle.grib_bits.specs.Bits.{bits, num, digit}
 use Rattle.grib_bits.specs.Octets.{num_on, octets}
 use Rattle.grib_bits.proofs.Numbers.{num-lt}
 use Rattle.grib_bits.proofs.OctetBits.{length-bits, num_on-bits}
-use Rattle.grib_base.specs.Rows.{choose}
+use Rattle.grib_base.specs.Rules.{choose}
 use Rattle.grib2_sections.specs.Frame.{Placed, placed_at, ends_at, section_at}
 use Rattle.grib_packing.proofs.Sections.{AreOctets-all}
 use Rattle.grib2_message.specs.View.{is_numbered, octets_in_force}

@@ -1,14 +1,16 @@
 -- The numbers of a field that is accepted are within the range of the columns that are packed.
-use Rattle.std.proofs.Common.{◌≡◌, ℕ, zero, suc, ◌+◌, ◌*◌, ◌^◌, ◌<◌, ◌≤◌, ◌⊎◌, Bool, true, false, cond, not, ◌&&◌, ◌||◌, ◌==◌, nat_lt, Option, Some, None, List, [], ◌∷◌, ◌++◌, length, drop, map, replicate, pos, inl, inr, refl, sym, ap₂, ◌∙◌, arith, subst, le-ltb, ltb-false, pow_mono}
-use Rattle.std.specs.List.{list_any, filter_map, range_with_len}
+use Rattle.std.proofs.Common.{◌≡◌, ℕ, zero, suc, ◌+◌, ◌*◌, ◌^◌, ◌<◌, ◌≤◌, Bool, true, false, cond, not, ◌&&◌, ◌==◌, nat_lt, Option, Some, None, List, [], ◌∷◌, ◌++◌, length, drop, map, replicate, pos, inl, inr, refl, sym, ◌∙◌, arith, subst, le-ltb, ltb-false, pow_mono}
+use Rattle.std.specs.List.{filter_map, range_with_len}
+use Rattle.std.proofs.lemmas.Bool.{cases_Bool}
 use Rattle.grib_bits.specs.Bits.{bits}
 use Rattle.grib_bits.specs.Plain.{plain, plain_at}
 use Rattle.grib_bits.proofs.WordNumbers.{number-lt}
+use Rattle.grib_bits.proofs.Logic.{second_fails}
 use Rattle.grib_base.specs.declared.code.Code.{Code}
 use Rattle.grib_base.specs.declared.code.Code.TheVariants.{Present, Primary, Secondary}
 use Rattle.grib_base.specs.declared.fault.Fault.{Fault}
-use Rattle.grib_base.specs.Rows.{Row, first_fault, first_place, or_then, choose}
-use Rattle.grib_base.proofs.Places.{NoneOf}
+use Rattle.grib_base.specs.Rules.{Rule, first_fault, first_place, or_then, choose}
+use Rattle.grib_base.proofs.Places.{NoneOf, none_of_any}
 use Rattle.grib_packing.specs.declared.column.Point.{Point}
 use Rattle.grib_packing.specs.declared.column.Point.TheVariants.{Scaled}
 use Rattle.grib_packing.specs.declared.group.Group.{Group}
@@ -17,11 +19,10 @@ use Rattle.grib_packing.specs.Column.{points_with_mask}
 use Rattle.grib_packing.specs.Coded.{coded_entries, coded_numbers, is_coded, point_of}
 use Rattle.grib_packing.specs.Complex.{layout_of, descriptor_octets}
 use Rattle.grib_packing.specs.Differences.{undone}
-use Rattle.grib_packing.specs.Entries.{packing_fault, data_fault, complex_data_fault, complex_entries, group_data_fault, group_data_rows, group_entries, range_rows, entries_of, codes_of, descriptors, refilled, present_code, has_no_groups, is_out_of_range}
-use Rattle.grib_packing.specs.Groups.{code_of, codes_from, marked, groups_from, groups, references, widths, lengths, list_octets, list_rows}
+use Rattle.grib_packing.specs.Entries.{packing_fault, data_fault, complex_data_fault, complex_entries, group_data_fault, group_data_rules, group_entries, range_rules, entries_of, codes_of, descriptors, refilled, present_code, has_no_groups, is_out_of_range}
+use Rattle.grib_packing.specs.Groups.{code_of, codes_from, marked, groups_from, groups, references, widths, lengths, list_octets, list_rules}
 use Rattle.grib_packing.specs.Packing.{packing_template, bit_width, value_count}
 use Rattle.grib_packing.proofs.Packings.{IsComplexTemplate, PackingPasses, packing_passes, most-simple, most-complex, data_fault-complex, entries_of-simple, entries_of-complex, entries_of-coded}
-use Rattle.grib_simple.proofs.Fitting.{parts_false}
 use Rattle.grib_simple.proofs.Seen.{first_place-any}
 use Rattle.grib2_message.proofs.Passed.{passes_from_none}
 use Rattle.grib_repack.proofs.InBlocks.{blocks_within}
@@ -34,16 +35,6 @@ none_with_mask [] entries none = tt
 none_with_mask (false ∷ mask) entries none = (refl, none_with_mask mask entries none)
 none_with_mask (true ∷ mask) [] none = (refl, none_with_mask mask [] none)
 none_with_mask (true ∷ mask) (entry ∷ entries) none = (none.0, none_with_mask mask entries none.1)
-
-pub any_of_none : {A : Type 0} (test : A → Bool) (xs : List A) → NoneOf test xs → list_any test xs ≡ false
-any_of_none test [] none = refl
-any_of_none test (x ∷ xs) none = ap₂ (λ (a b : Bool). a || b) none.0 (any_of_none test xs none.1)
-
-none_of_any : {A : Type 0} (test : A → Bool) (xs : List A) → list_any test xs ≡ false → NoneOf test xs
-none_of_any test [] e = tt
-none_of_any test (x ∷ xs) e =
-    let both = parts_false (test x) (list_any test xs) e in
-    (both.0, none_of_any test xs both.1)
 
 -- where no element has the first place, none passes
 none_by_place : {A : Type 0} (test : A → Bool) (xs : List A) → nat_lt 0 (first_place test xs) ≡ false → NoneOf test xs
@@ -146,19 +137,11 @@ refilled_within (Present n ∷ codes) low =
     let here : n < 2 ^ 33 = low.0 in
     (scaled_within n (omega arith), refilled_within codes low.1)
 
--- ---- rows that pass
+-- ---- rules that pass
 
-or_tells : (fault : Option Fault) (later : Unit {0} → List Row) → or_then fault later ≡ None → (fault ≡ None) × (first_fault (later tt) ≡ None)
+or_tells : (fault : Option Fault) (later : Unit {0} → List Rule) → or_then fault later ≡ None → (fault ≡ None) × (first_fault (later tt) ≡ None)
 or_tells (Some fault) later none = absurd (cc)
 or_tells None later none = (refl, none)
-
-true_or_false : (b : Bool) → (b ≡ true) ⊎ (b ≡ false)
-true_or_false true = inl refl
-true_or_false false = inr refl
-
-second_true : (a b : Bool) → (a && b) ≡ false → a ≡ true → b ≡ false
-second_true true b e on = e
-second_true false b e on = absurd (cc)
 
 module _ (s5 s7 : List ℕ) (points : ℕ) (accepted : packing_fault s5 points ≡ None) (values : data_fault s5 s7 ≡ None) where
   packing : PackingPasses s5 points
@@ -183,27 +166,27 @@ module _ (s5 s7 : List ℕ) (points : ℕ) (accepted : packing_fault s5 points �
         let layout = layout_of s5 in
         let octets = drop (5 + descriptor_octets s5) s7 in
         let passes : group_data_fault s5 s7 ≡ None = subst (λ (b : Bool). choose b (λ _. None) (λ _. group_data_fault s5 s7) ≡ None) some complex_passes in
-        let all = or_tells (or_then (first_fault (list_rows layout (length s7) (descriptor_octets s5))) (λ _. group_data_rows s5 s7)) (λ _. range_rows s5 s7) passes in
-        let lists = or_tells (first_fault (list_rows layout (length s7) (descriptor_octets s5))) (λ _. group_data_rows s5 s7) all.0 in
-        let rows = passes_from_none (group_data_rows s5 s7) lists.1 in
-        let range = passes_from_none (range_rows s5 s7) all.1 in
-        let wide : NoneOf (λ w. nat_lt 32 w) (widths layout octets) = none_by_place (λ w. nat_lt 32 w) (widths layout octets) rows.1.1.0 in
+        let all = or_tells (or_then (first_fault (list_rules layout (length s7) (descriptor_octets s5))) (λ _. group_data_rules s5 s7)) (λ _. range_rules s5 s7) passes in
+        let lists = or_tells (first_fault (list_rules layout (length s7) (descriptor_octets s5))) (λ _. group_data_rules s5 s7) all.0 in
+        let rules = passes_from_none (group_data_rules s5 s7) lists.1 in
+        let range = passes_from_none (range_rules s5 s7) all.1 in
+        let wide : NoneOf (λ w. nat_lt 32 w) (widths layout octets) = none_by_place (λ w. nat_lt 32 w) (widths layout octets) rules.1.1.0 in
         let low : AreLow (codes_of s5 s7) =
         codes_low layout (groups layout octets) (bits (drop (list_octets layout) octets))
         (groups_narrow (references layout octets) (widths layout octets) (lengths layout octets)
         (plain_below (bits octets) layout.reference_bits (range_with_len 0 layout.groups) few_bits) wide) in
         let present = filter_map present_code (codes_of s5 s7) in
-        elim (true_or_false (packing_template s5 == 3)) [
+        elim (cases_Bool (packing_template s5 == 3)) [
           | inl spatial ↦
               none_by_place is_out_of_range (group_entries s5 s7)
-              (second_true (packing_template s5 == 3) (nat_lt 0 (first_place is_out_of_range (group_entries s5 s7))) range.0 spatial)
+              (second_fails (packing_template s5 == 3) (nat_lt 0 (first_place is_out_of_range (group_entries s5 s7))) range.0 spatial)
           | inr plain ↦
               subst (λ (b : Bool). NoneOf is_out_of_range (refilled (codes_of s5 s7) (cond b (undone (descriptors s5 s7) present) (map pos present)))) (sym plain)
               (refilled_within (codes_of s5 s7) low)
         ]
 
     complex_within : NoneOf is_out_of_range (complex_entries s5 s7)
-    complex_within = elim (true_or_false (has_no_groups s5)) [
+    complex_within = elim (cases_Bool (has_no_groups s5)) [
       | inl none ↦
           subst (λ (b : Bool). NoneOf is_out_of_range (choose b (λ _. replicate (value_count s5) (Scaled (pos 0))) (λ _. group_entries s5 s7))) (sym none)
           (zeros_within (value_count s5))
@@ -214,7 +197,7 @@ module _ (s5 s7 : List ℕ) (points : ℕ) (accepted : packing_fault s5 points �
 
   -- in blocks
   coded_within : packing_template s5 ≡ 42 → NoneOf is_out_of_range (coded_entries s5 s7)
-  coded_within coded = elim (true_or_false (is_coded s5)) [
+  coded_within coded = elim (cases_Bool (is_coded s5)) [
     | inl some ↦
         subst (λ (b : Bool). NoneOf is_out_of_range (choose b (λ _. map point_of (coded_numbers s5 s7)) (λ _. replicate (value_count s5) (point_of 0)))) (sym some)
         (blocks_within s5 s7 points coded accepted values some)

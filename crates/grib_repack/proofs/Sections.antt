@@ -131,7 +131,7 @@ stated_target ToComplex has = refl
 stated_target (ToSpatial order) has = refl
 stated_target (ToCoded block interval) has = absurd has
 
--- a Section 5 that no row refuses is accepted by a profile that has its packing
+-- a Section 5 that no rule refuses is accepted by a profile that has its packing
 pub accepted_under : (profile : Profile) (target : Target) (column : Column) (kind : ℕ) (s5 s6 s7 : List ℕ) (points : ℕ) → HasPacking profile target
     → HasPacked target column kind s5 s6 s7 → packing_fault s5 points ≡ None → packing_fault_under profile s5 points ≡ None
 accepted_under Open target column kind s5 s6 s7 points own has none = accepted_open s5 points none

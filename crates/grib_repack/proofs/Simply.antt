@@ -7,7 +7,7 @@ use Rattle.grib_packing.specs.declared.representation.Simple.{Simple}
 use Rattle.grib_packing.specs.Entries.{data_fault, own_packing}
 use Rattle.grib_packing.specs.Packing.{packing_template, value_count, bit_width}
 use Rattle.grib_packing.specs.Representation.{Spelled}
-use Rattle.grib_packing.specs.Simple.{simple_rows}
+use Rattle.grib_packing.specs.Simple.{simple_rules}
 use Rattle.grib_packing.proofs.Packings.{data_fault-simple, most-simple}
 use Rattle.grib2_message.proofs.Passed.{passes_from_none}
 use Rattle.grib2_message.specs.Fields.{part_octets}
@@ -20,8 +20,8 @@ numbers_in message i =
 -- Section 7 has its numbers
 pub has_numbers : (s5 s7 : List ℕ) → packing_template s5 ≡ 0 → data_fault s5 s7 ≡ None → value_count s5 * bit_width s5 + 40 ≤ 8 * length s7
 has_numbers s5 s7 template none =
-    let rows = passes_from_none (simple_rows s5 (length s7)) (sym (data_fault-simple s5 s7 template) ∙ none) in
-    ltb-false (8 * length s7) (value_count s5 * bit_width s5 + 40) rows.0
+    let rules = passes_from_none (simple_rules s5 (length s7)) (sym (data_fault-simple s5 s7 template) ∙ none) in
+    ltb-false (8 * length s7) (value_count s5 * bit_width s5 + 40) rules.0
 
 -- a number of simple packing has 48 bits at most
 pub narrow_bits : (s5 : List ℕ) → packing_template s5 ≡ 0 → bit_width s5 ≤ (own_packing s5).most → bit_width s5 ≤ 48

@@ -1,18 +1,9 @@
 -- What repacking is asked and may answer.
 use Rattle.std.specs.Prelude.{◌≡◌, Option, Some}
-use Rattle.grib_packing.specs.Misfits.{Target, ToSimple, ToComplex, ToSpatial, ToCoded}
 use Rattle.grib_repack.specs.Repacked as misfits
 use Rattle.grib_repack.specs.Repacked.{RepackMisfit}
-use Rattle.grib_repack.specs.declared.target.RepackTarget.{RepackTarget}
-use Rattle.grib_repack.specs.declared.target.RepackTarget.TheVariants.{Simple, Complex, Spatial, Coded}
 use Rattle.grib_repack.specs.declared.fault.RepackFault.{RepackFault}
 use Rattle.grib_repack.specs.declared.fault.RepackFault.TheVariants.{SecondaryMissing, OutOfRange, DifferenceRange, OutputTooLong, Memory}
-
-abbrev pub target_of : RepackTarget → Target
-target_of Simple = ToSimple
-target_of Complex = ToComplex
-target_of (Spatial order) = ToSpatial order
-target_of (Coded block interval) = ToCoded block interval
 
 -- the first misfit; where there is no memory, nothing is said of it
 abbrev pub IsRepackFault : Option RepackMisfit → RepackFault → Type 0

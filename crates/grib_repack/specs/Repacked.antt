@@ -6,6 +6,7 @@ use Rattle.std.specs.List.{range_with_len}
 use Rattle.grib_base.specs.declared.profile.Profile.{Profile}
 use Rattle.grib_base.specs.declared.profile.Profile.TheVariants.{Stated, Open}
 use Rattle.grib_bits.specs.Octets.{octets}
+use Rattle.grib_base.specs.Rules.{or_later, first_among}
 use Rattle.grib_packing.specs.Misfits as packing
 use Rattle.grib_packing.specs.Misfits.{Target, ToSimple, ToComplex, ToSpatial, ToCoded, Misfit, first_misfit}
 use Rattle.grib_packing.specs.declared.written.Packed.{Packed}
@@ -46,17 +47,6 @@ in_field i packing.DifferenceRange = DifferenceRange i
 abbrev pub field_misfit : Target → List ℕ → ℕ → Option RepackMisfit
 field_misfit target message i = option_map (in_field i) (first_misfit target (column_of message i).points)
 
--- a later cause counts where there is no earlier one, and is not looked for elsewhere
-abbrev pub or_later : Option RepackMisfit → (Unit {0} → Option RepackMisfit) → Option RepackMisfit
-or_later (Some misfit) later = Some misfit
-or_later None later = later tt
-
--- the first misfit of some fields, in their order
-abbrev pub misfit_among : Target → List ℕ → List ℕ → Option RepackMisfit
-misfit_among target message [] = None
-misfit_among target message (i ∷ fields) =
-    or_later (field_misfit target message i) (λ _. misfit_among target message fields)
-
 -- a message has 268,435,456 octets at most
 abbrev pub length_misfit : ℕ → Option RepackMisfit
 length_misfit l = cond (nat_lt 268435456 l) (Some (OutputTooLong l)) None
@@ -64,7 +54,7 @@ length_misfit l = cond (nat_lt 268435456 l) (Some (OutputTooLong l)) None
 -- the first misfit: that of a field, else that of the whole
 abbrev pub repack_misfit : Target → List ℕ → Option RepackMisfit
 repack_misfit target message =
-    or_later (misfit_among target message (range_with_len 1 (field_count message)))
+    or_later (first_among (field_misfit target message) (field_count message) 1)
     (λ _. length_misfit (length (repacked target message)))
 
 -- whether a profile has the packing of a target: the stated one has no CCSDS packing

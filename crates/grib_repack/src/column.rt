@@ -4,15 +4,13 @@ ghost use Rattle.std.specs.Prelude.{◌≡◌, ◌≤◌, IfSome};
 ghost use Rattle.grib_packing.specs.Written.{IsTarget, MayBePacked};
 ghost use Rattle.grib_packing.specs.Below.{IsPackedBelow};
 ghost use Rattle.grib2_message.specs.Fields.{field_count, column_of};
-ghost use Rattle.grib_repack.specs.Faults.{target_of};
+ghost use Rattle.grib_packing.specs.Targets.{target_of};
 ghost use Rattle.grib_repack.specs.Repacked.{kind_of};
 
 use crate::RepackTarget;
 use grib_bits::u8_at;
-use grib_ccsds::pack_coded_below;
-use grib_complex::{pack_complex, pack_spatial};
-use grib_packing::{Column, PackFault, Packed, Packing};
-use grib_simple::SimplePacking;
+use grib_packed::pack_column;
+use grib_packing::{Column, PackFault, Packed};
 use grib2_message::ReadableMessage;
 use std::alloc::Global;
 
@@ -44,35 +42,6 @@ pub(crate) fn pack_by_column(
         None => {
             let column = message.column(alloc, field)?;
             pack_column(alloc, &column, kind, target, below)
-        }
-    }
-}
-
-/// Sections 5, 6 and 7 of a column in the packing of a target.
-///
-/// # Errors
-///
-/// The first misfit of the column, or there is no memory.
-fn pack_column(
-    alloc: Global,
-    column: &Column,
-    kind: u8,
-    target: RepackTarget,
-    below: Option<u64>,
-) -> Result<Option<Packed>, PackFault>
-    requires target { IsTarget (target_of target) }
-    requires column { MayBePacked column.now }
-    ensures { IsPackedBelow (target_of target) column.now kind below result }
-{
-    match target {
-        RepackTarget::Simple => match SimplePacking.pack(alloc, column, kind) {
-            Ok(packed) => Ok(Some(packed)),
-            Err(fault) => Err(fault),
-        },
-        RepackTarget::Complex => pack_complex(alloc, column, kind, below),
-        RepackTarget::Spatial(order) => pack_spatial(alloc, column, kind, order, below),
-        RepackTarget::Coded { block, interval } => {
-            pack_coded_below(alloc, column, kind, block, interval, below)
         }
     }
 }

@@ -4,7 +4,7 @@ ghost use Rattle.std.specs.Prelude.{◌≡◌, ◌≤◌, IfSome};
 ghost use Rattle.grib_packing.specs.Written.{IsTarget, MayBePacked};
 ghost use Rattle.grib_packing.specs.Below.{IsPackedBelow};
 ghost use Rattle.grib2_message.specs.Fields.{field_count, column_of};
-ghost use Rattle.grib_repack.specs.Faults.{target_of};
+ghost use Rattle.grib_packing.specs.Targets.{target_of};
 ghost use Rattle.grib_repack.specs.Repacked.{kind_of};
 
 use crate::RepackTarget;

@@ -7,7 +7,7 @@ ghost use Rattle.grib_packing.specs.Written.{MayBePacked};
 ghost use Rattle.grib_packing.specs.Packing.{value_count};
 ghost use Rattle.grib_packing.specs.Representation.{Spelled};
 ghost use Rattle.grib_packing.specs.Below.{IsPackedBelow};
-ghost use Rattle.grib_complex.specs.KeptWords.{AreWords};
+ghost use Rattle.grib_codes.specs.KeptWords.{AreWords};
 ghost use Rattle.grib2_message.specs.Fields.{field_count, part_octets, column_of};
 ghost use Rattle.grib_repack.specs.Repacked.{kind_of};
 

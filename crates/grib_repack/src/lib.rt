@@ -9,13 +9,12 @@ pub mod laws;
 mod lengths;
 mod plain;
 mod repacking;
-mod target;
 mod values;
 
 pub use fault::RepackFault;
 pub use field::pack_field;
+pub use grib_packing::RepackTarget;
 pub use groups::point_words;
 pub use lengths::{kept_length, packed_length};
 pub use plain::pack_simply;
 pub use repacking::repack;
-pub use target::RepackTarget;

@@ -8,7 +8,7 @@ ghost use Rattle.grib_repack.specs.Repacked.{kind_of};
 
 use crate::values::pack_values;
 use grib_packing::{PackFault, Packed, numbers_of};
-use grib_simple::pack_numbers;
+use grib_simple_values::pack_numbers;
 use grib2_message::ReadableMessage;
 use std::alloc::Global;
 

@@ -1,12 +1,13 @@
 //! Repacking a message.
 
 ghost use Rattle.std.specs.Prelude.{◌≡◌, ◌≤◌, ◌<◌, None, length, MatchResult, All};
-ghost use Rattle.std.specs.List.{range_with_len};
+ghost use Rattle.grib_base.specs.Rules.{first_among};
 ghost use Rattle.grib_packing.specs.Written.{IsTarget};
 ghost use Rattle.grib2_message.specs.Assembled.{IsShort};
 ghost use Rattle.grib2_message.specs.Fields.{field_count};
-ghost use Rattle.grib_repack.specs.Repacked.{packed_field, packed_fields, repacked, field_misfit, misfit_among, repack_misfit};
-ghost use Rattle.grib_repack.specs.Faults.{target_of, IsRepackFault};
+ghost use Rattle.grib_repack.specs.Repacked.{packed_field, packed_fields, repacked, field_misfit, repack_misfit};
+ghost use Rattle.grib_packing.specs.Targets.{target_of};
+ghost use Rattle.grib_repack.specs.Faults.{IsRepackFault};
 ghost use Rattle.grib_repack.specs.Lengths.{length_with};
 
 use crate::field::pack_field;
@@ -53,7 +54,7 @@ fn pack_fields(
 ) -> Result<Vec<Packed>, RepackFault>
     requires { IsTarget (target_of target) }
     ensures { MatchResult result
-        (λ packed. (misfit_among (target_of target) message.now (range_with_len 1 (field_count message.now)) ≡ None)
+        (λ packed. (first_among (field_misfit (target_of target) message.now) (field_count message.now) 1 ≡ None)
         × (packed.items ≡ packed_fields (target_of target) message.now)
         × All IsShort packed.items)
         (IsRepackFault (repack_misfit (target_of target) message.now)) }
@@ -89,7 +90,7 @@ fn too_long(
     requires done { done ≤ field_count message.now }
     requires whole { length (repacked (target_of target) message.now)
         ≡ length_with (target_of target) message.now (field_count message.now) }
-    requires fit { misfit_among (target_of target) message.now (range_with_len 1 done) ≡ None }
+    requires fit { first_among (field_misfit (target_of target) message.now) done 1 ≡ None }
     requires total { total ≡ length_with (target_of target) message.now done }
     requires long { 268435456 < total }
     requires few { total ≤ 17179869184 }

@@ -11,13 +11,10 @@ ghost use Rattle.grib2_message.specs.Fields.{field_count, part_octets, field_mas
 ghost use Rattle.grib_repack.specs.Repacked.{kind_of};
 
 use grib_packing::{PackFault, Packed, Packing, Simple};
-use grib_simple::SimplePacking;
+use grib_simple::{MOST_NUMBER, SimplePacking};
 use grib_simple_values::{MarkedWriter, NumberWriter, Seen, mask_section, pack_written};
 use grib2_message::ReadableMessage;
 use std::alloc::{AllocError, Global};
-
-/// The greatest number of simple packing, which has 48 bits at most.
-const MOST: u64 = (1 << 48) - 1;
 
 /// Sections 5, 6 and 7 of one field, counted from 1, in simple packing. Its values are handed on twice, to be looked at and
 /// to be written. No column is made, unless one has no place in simple packing, or values are missing of a field that
@@ -39,7 +36,7 @@ pub(crate) fn pack_values(
     ensures { IsPacked ToSimple (column_of message.now field) (kind_of message.now field) result }
 {
     let seen = message.take_values(alloc, field, Seen::none())?;
-    if seen.greatest <= MOST {
+    if seen.greatest <= MOST_NUMBER {
         if seen.present == simple.values {
             let packed = pack_present(alloc, message, field, simple, &seen)?;
             return Ok(packed);

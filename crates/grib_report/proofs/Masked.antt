@@ -1,7 +1,7 @@
 -- What is summed up of the points of a mask, by that of the entries of those that are present.
 use Rattle.std.proofs.Common.{◌≡◌, ℕ, suc, ◌+◌, ◌≤◌, Bool, true, false, cond, Option, Some, None, unwrap_or, List, [], ◌∷◌, length, count_by, ℤ, fold, refl, sym, ap, ◌∙◌, arith}
 use Rattle.std.specs.Int.{int_min, int_max}
-use Rattle.grib_base.specs.Rows.{first_place}
+use Rattle.grib_base.specs.Rules.{first_place}
 use Rattle.grib_bitmap.specs.Mask.{present_count}
 use Rattle.grib_bitmap.proofs.Runs.{present_count-cons}
 use Rattle.grib_packing.specs.Column.{points_with_mask}

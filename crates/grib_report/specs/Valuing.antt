@@ -3,6 +3,7 @@
 use Rattle.std.specs.Prelude.{ℕ, zero, suc, ◌+◌, ◌*◌, ◌≤◌, ◌≡◌, true, false, Option, Some, None, option_map, List, length, ◌++◌}
 use Rattle.std.proofs.Common.{sym, ap}
 use Rattle.grib_bits.specs.Bits.{bits_of, signed}
+use Rattle.grib_base.specs.Rules.{first_among}
 use Rattle.grib_dyadic.specs.Reference.{Binary, ieee, ibm, reduced}
 use Rattle.grib_base.specs.declared.limits.TheConstants.{MOST_OCTETS}
 use Rattle.grib_base.specs.declared.profile.Profile.TheVariants.{Stated}
@@ -55,18 +56,9 @@ cause_1 places message = let column = column1_of message in range_cause places 1
 abbrev pub field_cause : ℕ → List ℕ → ℕ → Option Cause
 field_cause places message i = let column = column_of message i in range_cause places i (reduced (ieee column.reference)) column
 
--- a later cause counts where there is no earlier one, and is not looked for elsewhere
-abbrev pub or_later : Option Cause → (Unit {0} → Option Cause) → Option Cause
-or_later (Some cause) later = Some cause
-or_later None later = later tt
-
--- the first cause of n fields, from field i on
-abbrev pub first_cause : (ℕ → Option Cause) → ℕ → ℕ → Option Cause
-first_cause cause zero i = None
-first_cause cause (suc n) i = or_later (cause i) (λ _. first_cause cause n (i + 1))
-
+-- the first cause of its fields
 abbrev pub cause_2 : ℕ → List ℕ → Option Cause
-cause_2 places message = first_cause (field_cause places message) (field_count message) 1
+cause_2 places message = first_among (field_cause places message) (field_count message) 1
 
 -- a text is printed, or message m cannot be printed, by its cause
 abbrev pub text_unless : Option Cause → ℕ → List ℕ → Given

@@ -1,13 +1,13 @@
--- Sections 3 that no row refuses.
+-- Sections 3 that no rule refuses.
 use Rattle.std.proofs.Common.{◌≡◌, ℕ, ◌*◌, ◌<◌, ◌≤◌, inl, inr, true, false, List, length, None, refl, sym, ap, ap₂, ◌∙◌, arith, eq-eqb, ne_eqb, ltb, eqb}
 use Rattle.std.proofs.lemmas.Bool.{le-ltb}
 use Rattle.std.proofs.Math.Nat.{mul-le-mul, mul_comm, one-le-mul}
 use Rattle.grib_bits.specs.Octets.{octets, octet_list, num_on}
-use Rattle.grib_base.specs.Rows.{first_fault}
+use Rattle.grib_base.specs.Rules.{first_fault}
 use Rattle.grib_base.specs.declared.limits.TheConstants.{MOST_POINTS}
 use Rattle.grib_base.specs.declared.profile.Profile.{Profile}
-use Rattle.grib2_grids.specs.Grid.{grid_rows}
-use Rattle.grib2_grids.specs.Opaque.{grid_rows_under}
+use Rattle.grib2_grids.specs.Grid.{grid_rules}
+use Rattle.grib2_grids.specs.Opaque.{grid_rules_under}
 use Rattle.grib2_grids.proofs.Under.{grid_accepted}
 use Rattle.grib_rescan.specs.declared.points.Area.{Area}
 use Rattle.grib_rescan.specs.Scanning.{scanning_of}
@@ -15,7 +15,7 @@ use Rattle.grib_rescan.specs.Points.{IsBox, width, height}
 use Rattle.grib_rescan.specs.Sections.{IsLatLon, rescanned_section, cropped_section}
 use Rattle.grib_rescan.proofs.Kept.{as_before, rescanned-length, box-elsewhere, box-length, box-points, box-ni, box-nj}
 
-pub accepted : (s : List ℕ) → IsLatLon s → first_fault (grid_rows s) ≡ None
+pub accepted : (s : List ℕ) → IsLatLon s → first_fault (grid_rules s) ≡ None
 accepted s is =
     let long : ltb (length s) 14 ≡ false = le-ltb (length s) 14 (omega (arith, is.long)) in
     let whole : ltb (length s) 72 ≡ false = le-ltb (length s) 72 is.long in
@@ -24,7 +24,7 @@ accepted s is =
     let product : eqb (octets s 31 34 * octets s 35 38) (octets s 7 10) ≡ true = eq-eqb _ _ is.product in
     rw (is.source, is.template, is.list, long, whole, some, few, product) refl
 
-pub accepted_under : (profile : Profile) (s : List ℕ) → IsLatLon s → first_fault (grid_rows_under profile s) ≡ None
+pub accepted_under : (profile : Profile) (s : List ℕ) → IsLatLon s → first_fault (grid_rules_under profile s) ≡ None
 accepted_under profile s is = grid_accepted profile s (accepted s is)
 
 number : (s t : List ℕ) (first last : ℕ) → octet_list s first last ≡ octet_list t first last → octets s first last ≡ octets t first last

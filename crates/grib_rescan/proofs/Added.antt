@@ -7,7 +7,7 @@ use Rattle.grib_bits.specs.Bits.{bits, num}
 use Rattle.grib_bits.specs.Plain.{plain, plain_at}
 use Rattle.grib_packing.specs.declared.column.Point.{Point}
 use Rattle.grib_packing.specs.declared.column.Point.TheVariants.{Scaled, Missing}
-use Rattle.grib_simple.specs.Part.{plain_from}
+use Rattle.grib_simple_reading.specs.Part.{plain_from}
 use Rattle.grib_rescan.specs.declared.source.Numbers.{Numbers}
 use Rattle.grib_rescan.specs.Points.{point}
 use Rattle.grib_rescan.specs.Source.{number_points}

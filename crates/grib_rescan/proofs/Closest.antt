@@ -1,7 +1,7 @@
 -- The place that is nearest.
 use Rattle.std.proofs.Common.{◌≡◌, ℕ, zero, suc, ◌+◌, ◌-◌, ◌<◌, ◌≤◌, inl, inr, Bool, true, false, cond, ◌&&◌, nat_le, nat_lt, List, ◌∷◌, get_or, filter, refl, sym, ap, ◌∙◌, subst, arith, ltb-false}
 use Rattle.std.specs.List.{range_with_len, list_all}
-use Rattle.std.proofs.lemmas.Bool.{cases_Bool, cases_eq, leb-true, ltb-true, le-leb}
+use Rattle.std.proofs.lemmas.Bool.{cases_Bool, cases_eq, leb-true, ltb-true, le-leb, and_parts, false_from_ne_true}
 use Rattle.grib_rescan.specs.declared.places.Closest.{Closest}
 use Rattle.grib_rescan.specs.Bounds.{nearest}
 use Rattle.grib_rescan.specs.Places.{IsNearest}
@@ -14,14 +14,10 @@ all_pass test a (suc n) each =
     let here = each a (omega arith) (omega arith) in
     ap (λ b. b && list_all test (range_with_len (a + 1) n)) here ∙ all_pass test (a + 1) n (λ m low high. each m (omega (arith, low)) (omega (arith, high)))
 
-both_true : (a b : Bool) → (a && b) ≡ true → (a ≡ true) × (b ≡ true)
-both_true true b is = (refl, is)
-both_true false b is = cc
-
 passes : (test : ℕ → Bool) (a n m : ℕ) → list_all test (range_with_len a n) ≡ true → a ≤ m → m < a + n → test m ≡ true
 passes test a zero m all low high = absurd (omega (arith, low, high))
 passes test a (suc n) m all low high =
-    let both = both_true (test a) (list_all test (range_with_len (a + 1) n)) all in
+    let both = and_parts (test a) (list_all test (range_with_len (a + 1) n)) all in
     elim (cases_eq a m) [
       | inl same ↦ ap test (sym same) ∙ both.0
       | inr other ↦ passes test (a + 1) n m both.1 (omega (arith, low, other)) (omega (arith, high))
@@ -47,18 +43,12 @@ first_held holds a (suc n) k low high is before = elim (cases_eq a k) [
 
 -- ---- the nearest
 
-not_true : (b : Bool) → (b ≡ true → ⊥) → b ≡ false
-not_true b never = elim (cases_Bool b) [
-  | inl is ↦ absurd (never is)
-  | inr is ↦ is
-]
-
 pub nearest_is : (distance : ℕ → ℕ) (n k : ℕ) → IsNearest distance n k → nearest distance n ≡ k
 nearest_is distance n k is =
     let no_farther = λ (k : ℕ). list_all (λ m. nat_le (distance k) (distance m)) (range_with_len 0 n) in
     first_held no_farther 0 n k (omega arith) (omega (arith, is.within))
     (all_pass (λ m. nat_le (distance k) (distance m)) 0 n (λ m low high. le-leb (distance k) (distance m) (is.least m (omega (arith, high)))))
-    (λ m small. not_true (no_farther m)
+    (λ m small. false_from_ne_true (no_farther m)
     (λ all. let h = leb-true (distance m) (distance k) (passes (λ l. nat_le (distance m) (distance l)) 0 n k all (omega arith) (omega (arith, is.within))) in
     let nearer = is.first m small in
     omega (arith, h, nearer)))

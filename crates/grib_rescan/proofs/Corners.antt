@@ -1,40 +1,19 @@
 -- The latitudes of a grid whose increments lead from the first point to the last.
-use Rattle.std.proofs.Common.{◌≡◌, ℕ, zero, suc, ◌+◌, ◌-◌, ◌*◌, ◌^◌, ◌<◌, ◌≤◌, Bool, true, false, ◌&&◌, List, [], ◌∷◌, length, nat_abs, ℤ, pos, ◌-ℤ◌, neg_ℤ, IsTrue, refl, sym, ap, subst, ◌∙◌, arith}
+use Rattle.std.proofs.Common.{◌≡◌, ℕ, ◌+◌, ◌-◌, ◌*◌, ◌^◌, ◌<◌, ◌≤◌, true, List, nat_abs, ℤ, pos, ◌-ℤ◌, IsTrue, sym, ap, subst, ◌∙◌, arith}
 use Rattle.std.proofs.lemmas.Int.{ints}
 use Rattle.std.proofs.Math.Nat.{mul-le-mul_right}
-use Rattle.grib_bits.specs.Bits.{signed, num}
 use Rattle.std.specs.Ordering.{int_eq}
 use Rattle.std.proofs.lemmas.Bool.Decides.{Decides-int_eq}
 use Rattle.grib_bits.specs.Bits.{bits}
 use Rattle.grib_bits.specs.Octets.{octets, octet_list, signed_octets}
-use Rattle.grib_bits.proofs.Numbers.{num-lt}
 use Rattle.grib_bits.proofs.OctetBits.{AreOctets, length-bits}
 use Rattle.grib_bits.proofs.OctetNumbers.{length-octet_list}
+use Rattle.grib_bits.proofs.Signs.{signed-small}
+use Rattle.grib_bits.proofs.Logic.{left_true, right_true}
 use Rattle.grib_rescan.specs.Sections.{HasPoints, latitude_at, has_steps}
-
-nat_abs-neg : (n : ℕ) → nat_abs (neg_ℤ (pos n)) ≡ n
-nat_abs-neg zero = refl
-nat_abs-neg (suc n) = refl
-
-pub signed-small : (bs : List Bool) → length bs ≡ 32 → nat_abs (signed bs) < 2 ^ 31
-signed-small [] long = absurd (omega (arith, long))
-signed-small (false ∷ bs) long =
-    let size : length bs ≡ 31 = omega (arith, long) in
-    subst (λ (k : ℕ). num bs < 2 ^ k) size (num-lt bs)
-signed-small (true ∷ bs) long =
-    let size : length bs ≡ 31 = omega (arith, long) in
-    omega (arith, subst (λ (k : ℕ). num bs < 2 ^ k) size (num-lt bs), nat_abs-neg (num bs))
 
 equal : (a b : ℤ) → int_eq a b ≡ true → a ≡ b
 equal a b h = grind (arith, Decides-int_eq)
-
-and_left_true : (a b : Bool) → (a && b) ≡ true → a ≡ true
-and_left_true true b h = refl
-and_left_true false b h = cc
-
-and_right_true : (a b : Bool) → (a && b) ≡ true → b ≡ true
-and_right_true true b h = h
-and_right_true false b h = cc
 
 pub between : (a : ℤ) (x y : ℕ) → x ≤ y → nat_abs a < 2 ^ 31 → nat_abs (a -ℤ pos y) < 2 ^ 31 → nat_abs (a -ℤ pos x) < 2 ^ 31
 between a x y less first last = omega (arith, ints)
@@ -48,6 +27,6 @@ latitude-small s j known grid within steps =
     signed-small (bits (octet_list s first (first + 3)))
     (length-bits (octet_list s first (first + 3))
     ∙ ap (λ (n : ℕ). 8 * n) (length-octet_list s first (first + 3) 4 known counted (omega arith) (omega (arith, short, grid.long)))) in
-    let same : latitude_at s last ≡ signed_octets s 56 59 = equal _ _ (and_right_true _ _ (and_left_true _ _ steps)) in
+    let same : latitude_at s last ≡ signed_octets s 56 59 = equal _ _ (right_true _ _ (left_true _ _ steps)) in
     between (signed_octets s 47 50) (j * step) (last * step) (mul-le-mul_right step (omega (arith, within))) (read 47 (omega arith) (omega arith))
     (subst (λ (z : ℤ). nat_abs z < 2 ^ 31) (sym same) (read 56 (omega arith) (omega arith)))

@@ -4,15 +4,15 @@ use Rattle.std.specs.List.{range_with_len}
 use Rattle.std.proofs.lemmas.Bool.{eqb-true, cases_eq, cases_Bool}
 use Rattle.std.proofs.lemmas.List.FromFn.{length-range_with_len, get_or-range_with_len}
 use Rattle.std.proofs.lemmas.List.Elements.{filter-append}
+use Rattle.grib_bits.proofs.Arithmetic.{range_append}
 use Rattle.grib_rescan.specs.declared.places.Run.{Run}
 use Rattle.grib_rescan.specs.Bounds.{held, run_in, run_of}
 use Rattle.grib_rescan.specs.Places.{IsRun}
-use Rattle.grib_rescan.proofs.Runs.{range_joined}
 
 -- ---- one place more
 
 more : (holds : ℕ → Bool) (n : ℕ) → held holds (n + 1) ≡ held holds n ++ cond (holds (0 + n)) ((0 + n) ∷ []) []
-more holds n = ap (filter holds) (range_joined 0 n 1) ∙ filter-append holds (range_with_len 0 n) (range_with_len (0 + n) 1)
+more holds n = ap (filter holds) (range_append 0 n 1) ∙ filter-append holds (range_with_len 0 n) (range_with_len (0 + n) 1)
 
 pub held_in : (holds : ℕ → Bool) (n : ℕ) → holds n ≡ true → held holds (n + 1) ≡ held holds n ++ n ∷ []
 held_in holds n is =
@@ -206,10 +206,10 @@ is_run holds n run is =
     (λ k low high. not_held holds k (λ held. let at = is.all k (omega (arith, high, is.within)) held in let h = at.1 in omega (arith, h, low))) in
     let places : held holds n ≡ range_with_len run.first run.count =
     ap (λ m. held holds m) (sym whole)
-    ∙ ap (filter holds) (range_joined 0 run.first (run.count + behind))
+    ∙ ap (filter holds) (range_append 0 run.first (run.count + behind))
     ∙ filter-append holds (range_with_len 0 run.first) (range_with_len (0 + run.first) (run.count + behind))
     ∙ ap₂ (λ xs m. xs ++ filter holds (range_with_len m (run.count + behind))) before front
-    ∙ ap (filter holds) (range_joined run.first run.count behind)
+    ∙ ap (filter holds) (range_append run.first run.count behind)
     ∙ filter-append holds (range_with_len run.first run.count) (range_with_len end behind)
     ∙ ap₂ (λ xs ys. xs ++ ys) inside after
     ∙ append-nil (range_with_len run.first run.count) in

@@ -1,10 +1,11 @@
 -- Rows as runs of the points.
-use Rattle.std.proofs.Common.{◌≡◌, ℕ, zero, suc, ◌+◌, ◌-◌, ◌*◌, ◌%◌, ◌<◌, ◌≤◌, min, Bool, true, false, ◌&&◌, List, ◌∷◌, ◌++◌, length, take, drop, map, reverse, get_or, refl, sym, ap, ap₂, ◌∙◌, arith, length-take, length-drop}
+use Rattle.std.proofs.Common.{◌≡◌, ℕ, ◌+◌, ◌-◌, ◌*◌, ◌%◌, ◌<◌, ◌≤◌, min, Bool, true, false, ◌&&◌, List, ◌++◌, length, take, drop, map, reverse, get_or, refl, sym, ap, ap₂, ◌∙◌, arith, length-take, length-drop}
 use Rattle.std.proofs.Math.Nat.{mul_comm, mul-le-mul_right, mod-eq_of_lt, add-mod_right}
 use Rattle.std.specs.Bool.{beq}
 use Rattle.std.specs.List.{range_with_len}
 use Rattle.std.proofs.lemmas.List.{get_or-drop, get_or-take, get_or-reverse, ext_get_or, length-reverse, map-append}
 use Rattle.std.proofs.lemmas.List.FromFn.{length-map-range_with_len, get_or-map-range_with_len}
+use Rattle.grib_bits.proofs.Arithmetic.{range_append}
 use Rattle.grib_packing.specs.declared.column.Point.{Point}
 use Rattle.grib_packing.specs.declared.column.Point.TheVariants.{Missing}
 use Rattle.grib_rescan.specs.declared.scanning.Scanning.{Scanning}
@@ -90,16 +91,6 @@ read_backwards s ni nj points j row turns read differ =
 
 -- ---- a row of a box
 
-pub range_joined : (a n m : ℕ) → range_with_len a (n + m) ≡ range_with_len a n ++ range_with_len (a + n) m
-range_joined a zero m =
-    let none : 0 + m ≡ m = omega arith in
-    let same : a + 0 ≡ a = omega arith in
-    rw (none, same) refl
-range_joined a (suc n) m =
-    let more : suc n + m ≡ suc (n + m) = omega arith in
-    let same : a + suc n ≡ a + 1 + n = omega arith in
-    rw (more, same) (ap (λ ks. a ∷ ks) (range_joined (a + 1) n m))
-
 -- the number in its row of a point of the first part, and of one of the part behind the last column
 within_row : (ni i k : ℕ) → i + k < ni → (i + k) % ni ≡ i + k
 within_row ni i k small = mod-eq_of_lt small
@@ -122,4 +113,4 @@ box_row ni nj points i n j size small within few first others first_is others_is
     (λ k less. ap (λ m. j * ni + m) (behind_last ni (i + first) k (omega (arith, less, first_is, others_is, within)) (omega (arith, less, others_is, few)))) in
     ap₂ (λ xs ys. xs ++ ys) east west
     ∙ sym (map-append told (range_with_len i first) (range_with_len (i + first) others))
-    ∙ ap (map told) (sym (range_joined i first others) ∙ ap (range_with_len i) all)
+    ∙ ap (map told) (sym (range_append i first others) ∙ ap (range_with_len i) all)

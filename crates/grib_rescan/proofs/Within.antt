@@ -2,8 +2,9 @@
 use Rattle.std.proofs.Common.{◌≡◌, ℕ, ℤ, ◌+◌, ◌-◌, ◌*◌, ◌/◌, ◌%◌, ◌<◌, ◌≤◌, ◌&&◌, nat_le, inl, inr, Bool, true, false, cond, Option, Some, None, is_none, List, refl, sym, ap, ◌∙◌, subst, arith}
 use Rattle.std.proofs.Math.Nat.{mod-lt, mod-eq_of_lt, add-mod_right, mod-add-mod, add-mul, mul_assoc, add-mul-mod_self_right}
 use Rattle.std.proofs.lemmas.Nat.{div-add-mod'}
-use Rattle.std.proofs.lemmas.Bool.{cases_Bool, eqb-true, leb-true, leb-false, le-leb}
+use Rattle.std.proofs.lemmas.Bool.{cases_Bool, eqb-true, leb-true, leb-false, le-leb, and_from}
 use Rattle.grib_bits.specs.Octets.{octets}
+use Rattle.grib_bits.proofs.Logic.{left_true, right_true}
 use Rattle.grib_rescan.specs.declared.points.Area.{Area}
 use Rattle.grib_rescan.specs.declared.places.Run.{Run}
 use Rattle.grib_rescan.specs.declared.bounds.Bounds.{Bounds}
@@ -108,19 +109,6 @@ same_longitude s i round =
 
 -- ---- rows and columns by their degrees
 
-both_of : (a b : Bool) → a ≡ true → b ≡ true → (a && b) ≡ true
-both_of true true is_a is_b = refl
-both_of true false is_a is_b = cc
-both_of false b is_a is_b = cc
-
-left_of : (a b : Bool) → (a && b) ≡ true → a ≡ true
-left_of true b is = refl
-left_of false b is = cc
-
-right_of : (a b : Bool) → (a && b) ≡ true → b ≡ true
-right_of true b is = is
-right_of false b is = cc
-
 same_bool : (a b : Bool) → (a ≡ true → b ≡ true) → (b ≡ true → a ≡ true) → a ≡ b
 same_bool a b there back = elim (cases_Bool a) [
   | inl is ↦ is ∙ sym (there is)
@@ -168,13 +156,13 @@ module _ (north south west east : ℤ) (s : List ℕ) (area : Area) (grid : HasP
   pub rows_within : (j : ℕ) → j < octets s 35 38 → (nat_le area.j0 j && nat_le j area.j1) ≡ in_rows south north s j
   rows_within j small =
       same_bool _ _
-      (λ lies. let low = leb-true area.j0 j (left_of _ _ lies) in
-      let high = leb-true j area.j1 (right_of _ _ lies) in
+      (λ lies. let low = leb-true area.j0 j (left_true _ _ lies) in
+      let high = leb-true j area.j1 (right_true _ _ lies) in
       rows_run.inside j (omega (arith, low, j0_is)) (omega (arith, high, j1_is, rows_run.some)))
       (λ holds. let at = rows_run.all j small holds in
       let low = at.0 in
       let high = at.1 in
-      both_of _ _ (le-leb area.j0 j (omega (arith, low, j0_is))) (le-leb j area.j1 (omega (arith, high, j1_is))))
+      and_from _ _ (le-leb area.j0 j (omega (arith, low, j0_is))) (le-leb j area.j1 (omega (arith, high, j1_is))))
 
   -- a column of the box is that of the run
   column_is : (k : ℕ) → (area.i0 + k) % ni ≡ (first + (made.column_run.first + k)) % ni

@@ -21,7 +21,7 @@ pub record HasTemplate (s : List ℕ) : Type 0 where
   pub least : 14 ≤ length s
   pub points : octets s 6 6 ≡ 0 → octets s 13 14 ≡ 0 → octets s 11 11 ≡ 0 → HasPoints s
 
--- a Section 3 of template 3.0 without a list of rows, which no row of the profile refuses
+-- a Section 3 of template 3.0 without a list of rows, which no rule of the profile refuses
 pub record IsLatLon (s : List ℕ) : Type 0 where
   pub long : 72 ≤ length s
   pub source : octets s 6 6 ≡ 0

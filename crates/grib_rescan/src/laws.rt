@@ -9,9 +9,9 @@ ghost use Rattle.grib_rescan.specs.Scanning.{scanning_of, place, point_at};
 ghost use Rattle.grib_packing.specs.declared.column.Point.TheVariants.{Scaled};
 ghost use Rattle.grib_rescan.specs.declared.cause.GridCause.TheVariants.{ScanMode, OutsideBox, Increments};
 ghost use Rattle.grib_bits.specs.Octets.{octets, signed_octets, octet_list};
-ghost use Rattle.grib_base.specs.Rows.{first_fault};
+ghost use Rattle.grib_base.specs.Rules.{first_fault};
 ghost use Rattle.grib_base.specs.declared.profile.Profile.{Profile};
-ghost use Rattle.grib2_grids.specs.Opaque.{grid_rows_under};
+ghost use Rattle.grib2_grids.specs.Opaque.{grid_rules_under};
 ghost use Rattle.grib_rescan.specs.Sections.{rescanned_section, cropped_section, latitude_at, longitude_at, has_steps, AreApart, IsLatLon, HasPoints, HasTemplate};
 ghost use Rattle.grib_rescan.specs.declared.bounds.Bounds.TheVariants.{Box, Nearest};
 ghost use Rattle.grib_rescan.specs.declared.places.Run.{Run as Places};
@@ -147,7 +147,7 @@ pub fn what_a_cropped_grid_says()
 
 /// No row of a profile refuses the new Section 3, where none refuses that of the grid.
 pub fn a_new_grid_is_accepted()
-    ensures accepted { (profile : Profile) (s : List ℕ) → IsLatLon s → first_fault (grid_rows_under profile s) ≡ None }
+    ensures accepted { (profile : Profile) (s : List ℕ) → IsLatLon s → first_fault (grid_rules_under profile s) ≡ None }
     ensures rescanned { (s : List ℕ) → IsLatLon s → IsLatLon (rescanned_section s) }
     ensures cropped { (area : Rectangle) (s : List ℕ) → IsLatLon s → IsBox area (octets s 31 34) (octets s 35 38)
         → IsLatLon (cropped_section area s) }
@@ -156,13 +156,13 @@ pub fn a_new_grid_is_accepted()
 /// What is known where no row of a profile refuses a Section 3 and no cause holds: the conditions of what makes the
 /// new one.
 pub fn what_has_no_cause()
-    ensures template { (profile : Profile) (s : List ℕ) → first_fault (grid_rows_under profile s) ≡ None → HasTemplate s }
+    ensures template { (profile : Profile) (s : List ℕ) → first_fault (grid_rules_under profile s) ≡ None → HasTemplate s }
     ensures points { (s : List ℕ) → IsLatLon s → HasPoints s }
-    ensures rescanned { (profile : Profile) (s : List ℕ) → first_fault (grid_rows_under profile s) ≡ None
+    ensures rescanned { (profile : Profile) (s : List ℕ) → first_fault (grid_rules_under profile s) ≡ None
         → rescan_cause_of s ≡ None → IsLatLon s }
-    ensures cropped { (profile : Profile) (area : Rectangle) (s : List ℕ) → first_fault (grid_rows_under profile s) ≡ None
+    ensures cropped { (profile : Profile) (area : Rectangle) (s : List ℕ) → first_fault (grid_rules_under profile s) ≡ None
         → crop_cause_of area s ≡ None → CanBeCut area s }
-    ensures within { (profile : Profile) (bounds : Limits) (s : List ℕ) → first_fault (grid_rows_under profile s) ≡ None
+    ensures within { (profile : Profile) (bounds : Limits) (s : List ℕ) → first_fault (grid_rules_under profile s) ≡ None
         → within_cause_of bounds s ≡ None → HasWithin bounds s }
 {}
 

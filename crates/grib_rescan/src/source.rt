@@ -4,7 +4,7 @@ ghost use Rattle.std.specs.Prelude.{◌≡◌, ◌+◌, ◌*◌, ◌^◌, ◌<�
 ghost use Rattle.grib_bits.specs.Bits.{bits as bits_in};
 ghost use Rattle.grib_packing.specs.declared.column.Point.{Point as point};
 ghost use Rattle.grib_packing.specs.declared.column.Point.TheVariants.{Scaled};
-ghost use Rattle.grib_simple.specs.Part.{plain_from};
+ghost use Rattle.grib_simple_reading.specs.Part.{plain_from};
 ghost use Rattle.grib_rescan.specs.Points.{point as point_in};
 ghost use Rattle.grib_rescan.specs.Source.{number_points, NumbersStand};
 

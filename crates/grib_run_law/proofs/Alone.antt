@@ -1,7 +1,7 @@
 -- Commands whose results do not hang on the place of a message, but for the number of one that
 -- cannot be changed.
 use Rattle.std.proofs.Common.{◌≡◌, ◌⊎◌, inl, inr, ℕ, Bool, true, false, Option, Some, None, option_map, List, [], ◌==◌, length, refl, sym, ap, ◌∙◌}
-use Rattle.grib_base.specs.Rows.{choose}
+use Rattle.grib_base.specs.Rules.{choose}
 use Rattle.grib2_sections.specs.Head.{edition}
 use Rattle.grib_reasons.specs.declared.cause.Cause.{Cause}
 use Rattle.grib_reasons.specs.declared.cause.Cause.TheVariants.{EditionOne, EditionTwo, Lost, Packing}

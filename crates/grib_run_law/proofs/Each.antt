@@ -4,7 +4,7 @@ use Rattle.std.specs.List.{range_with_len}
 use Rattle.std.specs.Option.{option_or}
 use Rattle.std.proofs.lemmas.Bool.{cases_Bool, false≢true, eq-eqb}
 use Rattle.std.proofs.lemmas.List.Elements.{All-nil, All-cons, All-head, All-tail, All-from_get_or}
-use Rattle.grib_base.specs.Rows.{choose}
+use Rattle.grib_base.specs.Rules.{choose, or_later}
 use Rattle.grib_base.specs.declared.profile.Profile.{Profile}
 use Rattle.grib_base.specs.declared.profile.Profile.TheVariants.{Stated, Open}
 use Rattle.grib_reasons.specs.declared.cause.Cause.{Cause}
@@ -21,7 +21,7 @@ use Rattle.grib_dates.specs.declared.rule.Dates.TheVariants.{Any, Valid}
 use Rattle.grib_dates.specs.Times.{is_valid_time1, is_valid_time2}
 use Rattle.grib_select.specs.declared.changing.SetFault.{SetFault}
 use Rattle.grib_select.specs.declared.changing.SetFault.TheVariants.{KeyRange, KeyAbsent, Memory}
-use Rattle.grib_select.specs.Changed.{new_number, with_keys, first_without, change_fault, or_later, set_fault}
+use Rattle.grib_select.specs.Changed.{new_number, with_keys, first_without, change_fault, set_fault}
 use Rattle.grib_select.specs.Values.{key_value_of}
 use Rattle.grib2_sections.specs.Head.{edition}
 use Rattle.grib2_message.specs.Message.{IsMessage, IsMessageUnder, first_opaque}
@@ -36,8 +36,8 @@ use Rattle.grib_migrate.specs.Losses.{first_loss_with}
 use Rattle.grib_migrate.specs.Migrated.{migrated_with}
 use Rattle.grib_migrate_law.specs.Source.{MayBeMigratedWith}
 use Rattle.grib_migrate_law.proofs.Migrated.{chosen_is_message, chosen_one_field, chosen_meaning}
-use Rattle.grib_repack.specs.declared.target.RepackTarget.{RepackTarget}
-use Rattle.grib_repack.specs.Faults.{target_of}
+use Rattle.grib_packing.specs.declared.target.RepackTarget.{RepackTarget}
+use Rattle.grib_packing.specs.Targets.{target_of}
 use Rattle.grib_repack.specs.Repacked.{HasPacking, MayBeRepacked, repacked, repack_misfit}
 use Rattle.grib_stream.specs.declared.place.Place.{Place}
 use Rattle.grib_stream.specs.Acts.{Act, Writes, Makes, Adds, writes, written}

@@ -2,7 +2,7 @@
 use Rattle.std.proofs.Common.{◌≡◌, ℕ, zero, suc, ◌+◌, ◌-◌, ◌^◌, ◌≤◌, ◌==◌, ◌&&◌, Bool, true, false, cond, Option, Some, None, IfSome, List, [], ◌∷◌, length, take, drop, refl, sym, ap, ◌∙◌, subst, arith}
 use Rattle.std.proofs.lemmas.Bool.{false≢true}
 use Rattle.std.proofs.lemmas.List.{length-take}
-use Rattle.grib_base.specs.Rows.{choose}
+use Rattle.grib_base.specs.Rules.{choose}
 use Rattle.grib_base.specs.declared.fault.Fault.{Fault}
 use Rattle.grib_base.specs.declared.fault.Refusal.{Refusal}
 use Rattle.grib_base.specs.declared.profile.Profile.{Profile}
@@ -72,7 +72,7 @@ use Rattle.grib_run_spec.specs.Serving.{Gives as RunGives, Reading, AtOnce, Answ
 use Rattle.grib_run_spec.specs.Stated.{IfFiled, IfTabled, outcome_by, stated_to}
 use Rattle.grib_run_spec.specs.Tasks.{Stated, Work, Reads, Makes, ReadsTables, ReadsFile, by_profile, work_of_job, work_under}
 use Rattle.grib_run_law.specs.Answered.{is_longer, items_of, items_answered}
-use Rattle.grib_run_law.specs.Judged.{IsRefused, messages_of, NamesRow, Judges}
+use Rattle.grib_run_law.specs.Judged.{IsRefused, messages_of, NamesRule, Judges}
 use Rattle.grib_run_law.proofs.Accepting.{ItemsStand, is_refused, judged_all}
 use Rattle.grib_run_law.proofs.Leaving.{each_some, stated_within}
 
@@ -327,9 +327,9 @@ module _ (profile : Profile) where
     row_number : (items : List Item) (end : End) (refusal : Refusal) → IsEnd 0 items end refusal → refusal.message ≡ length (messages_of items) + 1
     row_number items end refusal own = let number : refusal.message ≡ 0 + length (messages_of items) + 1 = own.number in omega arith
 
-    names_row : (command : Command) → NeverRefuses (under profile command) → (policy : Policy) (input : List ℕ) (refusal : Refusal)
-        → (stated_to (under profile command) policy input).outcome ≡ outcomes.Refused refusal → NamesRow profile policy input refusal
-    names_row command never policy input refusal is =
+    names_rule : (command : Command) → NeverRefuses (under profile command) → (policy : Policy) (input : List ℕ) (refusal : Refusal)
+        → (stated_to (under profile command) policy input).outcome ≡ outcomes.Refused refusal → NamesRule profile policy input refusal
+    names_rule command never policy input refusal is =
         let found = items_answered profile policy input in
         let own = answers_refused (under profile command) never policy no_counts found.items found.end refusal (sym (ap (λ stated. stated.outcome) (stated_within (under profile command) policy input)) ∙ is) in
         record {
@@ -338,7 +338,7 @@ module _ (profile : Profile) where
           number = row_number found.items found.end refusal own;
         }
 
-    judges : (policy : Policy) (outcome : Outcome) (input : List ℕ) → ((refusal : Refusal) → outcome ≡ outcomes.Refused refusal → NamesRow profile policy input refusal) → Judges profile policy outcome input
+    judges : (policy : Policy) (outcome : Outcome) (input : List ℕ) → ((refusal : Refusal) → outcome ≡ outcomes.Refused refusal → NamesRule profile policy input refusal) → Judges profile policy outcome input
     judges policy outcome input row = record {
       items = judged_all profile (is_longer input) (take (2 ^ 40) input) (items_answered profile policy input).items (stand policy (is_longer input) (take (2 ^ 40) input));
       refusal = row;
@@ -348,7 +348,7 @@ module _ (profile : Profile) where
         → IfSome before.left (Judges profile policy outcome)
     reading_judges policy outcome before now command never reading =
         each_some (λ input. RunGives (stated_to (under profile command) policy input) outcome before now) (Judges profile policy outcome) before.left
-        (λ input gives. judges policy outcome input (λ refusal is. names_row command never policy input refusal (sym (gives.ends (ap is_broken is)) ∙ is))) reading.gives
+        (λ input gives. judges policy outcome input (λ refusal is. names_rule command never policy input refusal (sym (gives.ends (ap is_broken is)) ∙ is))) reading.gives
 
     at_once_judges : (policy : Policy) (outcome : Outcome) (before now : Seen) (stated : Stated) → is_refusal stated.outcome ≡ false → AtOnce outcome before now stated
         → IfSome before.left (Judges profile policy outcome)

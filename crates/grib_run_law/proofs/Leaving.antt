@@ -4,7 +4,7 @@ use Rattle.std.specs.Io.KnownBytes.{Appends, Consumes, IsAtEnd}
 use Rattle.std.proofs.lemmas.Bool.{false≢true}
 use Rattle.std.proofs.lemmas.List.{take_all, length-take}
 use Rattle.std.proofs.lemmas.List.Elements.{All-take}
-use Rattle.grib_base.specs.Rows.{choose}
+use Rattle.grib_base.specs.Rules.{choose}
 use Rattle.grib_base.specs.declared.profile.Profile.{Profile}
 use Rattle.grib_keys.specs.declared.condition.Change.{Change}
 use Rattle.grib_keys.specs.declared.wanted.Wanted.{Wanted}
@@ -13,7 +13,7 @@ use Rattle.grib1_select.specs.declared.condition.Wanted1.{Wanted1}
 use Rattle.grib_dates.specs.declared.rule.Dates.{Dates}
 use Rattle.grib_names.specs.Table.{NameEntries}
 use Rattle.grib_params.specs.Table.{Entries}
-use Rattle.grib_repack.specs.declared.target.RepackTarget.{RepackTarget}
+use Rattle.grib_packing.specs.declared.target.RepackTarget.{RepackTarget}
 use Rattle.grib_migrate.specs.declared.labels.Local.{Local}
 use Rattle.grib_params.specs.Surfaces.{SurfaceEntries}
 use Rattle.grib_table.specs.declared.together.Tables.{Tables}
@@ -21,9 +21,8 @@ use Rattle.grib_table.specs.Together.{Together, AllGood, TableRefused, SurfacesR
 use Rattle.grib_stream.specs.declared.outcome.Outcome.{Outcome}
 use Rattle.grib_stream.specs.declared.outcome.Outcome.TheVariants.{InputTooLong}
 use Rattle.grib_stream.specs.Acts.{written, Did, DidFront}
-use Rattle.grib_stream.specs.Outcomes.{is_broken}
+use Rattle.grib_stream.specs.Outcomes.{is_broken, is_whole}
 use Rattle.grib_items.specs.declared.policy.Policy.{Policy}
-use Rattle.grib_items.specs.Laws.{is_whole}
 use Rattle.grib_items.specs.Run.{answer_of, answer_within}
 use Rattle.grib_items.specs.Steps.{Plan}
 use Rattle.grib_command.specs.declared.job.Job.{Job}
@@ -34,7 +33,7 @@ use Rattle.grib_edit.specs.Filtering.{filter_command}
 use Rattle.grib_edit.specs.Filtering1.{filter1_command}
 use Rattle.grib_edit.specs.FilteringNamed.{filter_named_command}
 use Rattle.grib_edit.specs.Migrating.{migrate_command}
-use Rattle.grib_repack.specs.Faults.{target_of}
+use Rattle.grib_packing.specs.Targets.{target_of}
 use Rattle.grib_repack.specs.Repacked.{HasPacking}
 use Rattle.grib_edit.specs.Repacking.{repack_command}
 use Rattle.grib_edit.specs.Setting.{set_command}

@@ -1,9 +1,10 @@
 -- What is written of a message that is filtered, and put on the shelf of one that is split, field for field.
-use Rattle.std.proofs.Common.{◌≡◌, inl, inr, ℕ, zero, suc, ◌+◌, ◌≤◌, ◌==◌, ◌&&◌, Bool, true, false, cond, List, [], ◌∷◌, ◌++◌, map, filter, All, refl, sym, ap, ◌∙◌, arith, append-nil}
+use Rattle.std.proofs.Common.{◌≡◌, inl, inr, ℕ, zero, suc, ◌+◌, ◌≤◌, ◌==◌, Bool, true, false, cond, List, [], ◌∷◌, ◌++◌, map, filter, All, refl, sym, ap, ◌∙◌, arith, append-nil}
 use Rattle.std.specs.List.{concat, flat_map, list_all, range_with_len}
 use Rattle.std.proofs.lemmas.List.Concat.{flat_map-append}
 use Rattle.std.proofs.lemmas.List.Elements.{All-nil, All-cons, All-head, All-tail, All-filter, All-append}
-use Rattle.grib_base.specs.Rows.{choose}
+use Rattle.grib_bits.proofs.Logic.{left_true, right_true}
+use Rattle.grib_base.specs.Rules.{choose}
 use Rattle.grib_base.specs.declared.profile.Profile.{Profile}
 use Rattle.grib2_sections.specs.Head.{edition}
 use Rattle.grib1_sections.specs.Message.{IsMessage1}
@@ -36,14 +37,6 @@ fields_from first (suc n) most low high =
 
 pub fields_of_message : (message : List ℕ) → All (IsField (field_count message)) (range_with_len 1 (field_count message))
 fields_of_message message = fields_from 1 (field_count message) (field_count message) (omega arith) (omega arith)
-
-left_true : (b c : Bool) → (b && c) ≡ true → b ≡ true
-left_true true c is = refl
-left_true false c is = is
-
-right_true : (b c : Bool) → (b && c) ≡ true → c ≡ true
-right_true true c is = is
-right_true false c is = let no : ⊥ = cc in absurd no
 
 all_stay : (p : ℕ → Bool) (xs : List ℕ) → list_all p xs ≡ true → filter p xs ≡ xs
 all_stay p [] is = refl

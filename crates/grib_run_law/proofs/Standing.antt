@@ -9,11 +9,12 @@ use Rattle.std.proofs.lemmas.Fmt.{decimal_injective}
 use Rattle.std.proofs.lemmas.List.{append_cancel_left}
 use Rattle.std.proofs.lemmas.List.Elements.{All-nil, All-cons, All-head, All-tail, All-take, All-drop}
 use Rattle.std.proofs.lemmas.Slice.Eq.{bytes_eq-Decides}
+use Rattle.grib_bits.proofs.Logic.{same_text}
 use Rattle.grib_io.specs.Shelves.{Held}
 use Rattle.grib_stream.specs.Acts.{Act, Makes, Adds, held_after}
 use Rattle.grib_stream.proofs.Worlds.{held-append}
 use Rattle.grib_edit.specs.Parts.{Part, part, part_name, adds, puts, puts_all}
-use Rattle.grib_edit.proofs.Shelved.{held_adds, other_adds, same_name}
+use Rattle.grib_edit.proofs.Shelved.{held_adds, other_adds}
 use Rattle.grib_run_law.specs.Shelved.{MayBeBegun, StandFirst, StandAll}
 
 -- ---- some first acts
@@ -54,7 +55,7 @@ cut_puts p (act ∷ front) more is =
 
 held_puts : (name octets : List ℕ) (held : Option (List ℕ)) → held_after name held (puts (part name octets)) ≡ Some octets
 held_puts name octets held =
-    ap (λ same. held_after name (cond same (Some []) held) (adds name octets)) (same_name name) ∙ held_adds name [] octets
+    ap (λ same. held_after name (cond same (Some []) held) (adds name octets)) (same_text name) ∙ held_adds name [] octets
 
 other_puts : (name octets other : List ℕ) (held : Option (List ℕ)) → bytes_eq name other ≡ false → held_after other held (puts (part name octets)) ≡ held
 other_puts name octets other held differs =

@@ -17,7 +17,7 @@ use Rattle.grib_items.specs.Next.{passed}
 use Rattle.grib_run_law.specs.Answered.{is_longer, items_answered}
 use Rattle.grib_run_law.specs.Complete.{IsInGrammar}
 
--- octets begin with `GRIB` and are refused with the fault of the first row of their edition that fails, by a profile
+-- octets begin with `GRIB` and are refused with the fault of the first rule of their edition that fails, by a profile
 pub record IsRefused (profile : Profile) (fault : Fault) (octets : List ℕ) : Type 0 where
   pub begun : begins octets ≡ true
   pub first : edition octets ≡ 1 → verdict_1 octets ≡ verdicts.Refused fault
@@ -39,7 +39,7 @@ messages_of (Refused refused ∷ later) = messages_of later
 
 -- Octets behind the items are refused with the fault that a refusal names, and its number is the one after that of the last
 -- message.
-pub record NamesRow (profile : Profile) (policy : Policy) (input : List ℕ) (refusal : Refusal) : Type 0 where
+pub record NamesRule (profile : Profile) (policy : Policy) (input : List ℕ) (refusal : Refusal) : Type 0 where
   pub ends : (items_answered profile policy input).end ≡ Refusing refusal.fault
   pub there : (before : ℕ) × AreInOrder 0 (items_answered profile policy input).items before × IsRefused profile refusal.fault (drop before (take (2 ^ 40) input))
   pub number : refusal.message ≡ length (messages_of (items_answered profile policy input).items) + 1
@@ -47,4 +47,4 @@ pub record NamesRow (profile : Profile) (policy : Policy) (input : List ℕ) (re
 -- Each item of an input, as far as it is answered, is judged by the grammars, and so is a refusal with which the run ends.
 pub record Judges (profile : Profile) (policy : Policy) (outcome : Outcome) (input : List ℕ) : Type 0 where
   pub items : All (IsJudged profile (is_longer input) (take (2 ^ 40) input)) (items_answered profile policy input).items
-  pub refusal : (refusal : Refusal) → outcome ≡ outcomes.Refused refusal → NamesRow profile policy input refusal
+  pub refusal : (refusal : Refusal) → outcome ≡ outcomes.Refused refusal → NamesRule profile policy input refusal

@@ -5,13 +5,12 @@ use Rattle.grib_base.specs.declared.profile.Profile.{Profile}
 use Rattle.grib_table.specs.declared.together.Tables.{Tables}
 use Rattle.grib_table.specs.Together.{Together, AllGood, TableRefused, SurfacesRefused}
 use Rattle.grib_stream.specs.declared.outcome.Outcome.{Outcome}
-use Rattle.grib_stream.specs.Outcomes.{is_broken}
+use Rattle.grib_stream.specs.Outcomes.{is_broken, is_whole}
 use Rattle.grib_items.specs.declared.policy.Policy.{Policy}
-use Rattle.grib_items.specs.Laws.{is_whole}
 use Rattle.grib_command.specs.declared.job.Job.{Job}
 use Rattle.grib_command.specs.declared.job.Job.TheVariants.{Filter, FilterNamed, Filter1, Split, Set, Set1, Repack, Migrate}
 use Rattle.grib_command.specs.Command.{Command, under}
-use Rattle.grib_repack.specs.Faults.{target_of}
+use Rattle.grib_packing.specs.Targets.{target_of}
 use Rattle.grib_repack.specs.Repacked.{HasPacking}
 use Rattle.grib_edit.specs.Filtering.{filter_command}
 use Rattle.grib_edit.specs.Filtering1.{filter1_command}

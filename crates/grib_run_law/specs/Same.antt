@@ -6,9 +6,10 @@ use Rattle.grib_bits.specs.Octets.{octets}
 use Rattle.grib_dyadic.specs.Meaning.{SameMeaning}
 use Rattle.grib_packing.specs.declared.column.Column.{Column}
 use Rattle.grib1_sections.specs.Column.{column1_of, meaning1_of}
-use Rattle.grib1_sections.specs.Keys.{place_of, key1_of, number1_of}
+use Rattle.grib1_sections.specs.Keys.{key1_of, number1_of}
+use Rattle.grib_keys.specs.Keys1.{place_of}
 use Rattle.grib1_sections.specs.Message.{IsMessage1}
-use Rattle.grib1_sections.specs.declared.key.Key1.{Key1}
+use Rattle.grib_keys.specs.declared.key1.Key1.{Key1}
 use Rattle.grib2_sections.specs.Head.{edition}
 use Rattle.grib2_message.specs.Message.{IsMessageUnder}
 use Rattle.grib2_message.specs.Fields.{field_count, column_of, meaning_of}

@@ -12,7 +12,7 @@ ghost use Rattle.grib_names.specs.Table.{NameEntries};
 ghost use Rattle.grib_migrate.specs.declared.labels.Local.{Local};
 ghost use Rattle.grib_params.specs.Surfaces.{SurfaceEntries};
 ghost use Rattle.grib_params.specs.Table.{Entries};
-ghost use Rattle.grib_repack.specs.declared.target.RepackTarget.{RepackTarget};
+ghost use Rattle.grib_packing.specs.declared.target.RepackTarget.{RepackTarget};
 ghost use Rattle.grib_table.specs.Together.{Texts};
 ghost use Rattle.grib_stream.specs.declared.outcome.Outcome.{Outcome};
 ghost use Rattle.grib_stream.specs.declared.outcome.Outcome.TheVariants.{Done};
@@ -45,7 +45,7 @@ ghost use Rattle.grib_run_law.specs.Plain.{IsPlainly};
 ghost use Rattle.grib_run_law.specs.Same.{SameValues, SameMigrated, SetsKeys, SetsKeys1, IsFiltered, IsFilteredNamed, IsFiltered1, IfOctets};
 ghost use Rattle.grib_run_law.specs.Shelved.{SplitsFields, parts_within, OfNames, StandFirst, StandAll};
 ghost use Rattle.grib_run_law.specs.Written.{Writes, stated_of};
-ghost use Rattle.grib_repack.specs.Faults.{target_of};
+ghost use Rattle.grib_packing.specs.Targets.{target_of};
 ghost use Rattle.grib_repack.specs.Repacked.{HasPacking};
 
 use grib_items::laws::{items_stand, nothing_is_passed};
@@ -156,7 +156,7 @@ pub fn what_a_run_leaves()
 }
 
 /// Each message of the input of a run, as far as it is answered, is in the grammar of its edition, and octets that are
-/// refused, passed or not, are refused by the first row that fails.
+/// refused, passed or not, are refused by the first rule that fails.
 pub fn what_a_run_answers_is_in_the_grammar()
     ensures { (profile : Profile) (job : Job) (policy : Policy) (outcome : Outcome) (before now : Seen)
         → AnswersWork (work_under profile job) policy outcome before now → IfSome before.left (Judges profile policy outcome) }

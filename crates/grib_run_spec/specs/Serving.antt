@@ -9,11 +9,10 @@ use Rattle.grib_stream.specs.declared.outcome.Outcome.{Outcome}
 use Rattle.grib_stream.specs.declared.outcome.Outcome.TheVariants.{ReadFault, ShelfFault, Memory, InputTooLong}
 use Rattle.grib_stream.specs.Acts.{DidFront}
 use Rattle.grib_stream.specs.Faults.{Faults, CountsRun}
-use Rattle.grib_stream.specs.Outcomes.{is_broken, is_cut_short, KeepsOrCuts}
+use Rattle.grib_stream.specs.Outcomes.{is_broken, is_cut_short, KeepsOrCuts, is_whole}
 use Rattle.grib_stream.specs.Reading.{Takes}
 use Rattle.grib_items.specs.declared.policy.Policy.{Policy}
 use Rattle.grib_items.specs.Deeds.{Done, deeds, then}
-use Rattle.grib_items.specs.Laws.{is_whole}
 use Rattle.grib_items.specs.Run.{answer_of}
 use Rattle.grib_command.specs.Command.{Command}
 use Rattle.grib_command.specs.Outcomes.{note_of}

@@ -3,12 +3,11 @@
 use Rattle.std.specs.Prelude.{ℕ, ◌^◌, ◌==◌, ◌&&◌, Bool, cond, List, [], ◌∷◌, ◌++◌, Ok, Err, IfSome}
 use Rattle.std.specs.declared.option.Option.{Option}
 use Rattle.std.specs.declared.result.Result.{Result}
-use Rattle.grib_io.specs.Shelves.{Held}
+use Rattle.grib_io.specs.Shelves.{Held, Stood}
 use Rattle.grib_base.specs.declared.profile.Profile.{Profile}
 use Rattle.grib_file.specs.Filed as files
 use Rattle.grib_file.specs.Filed.{FieldOf, Filed, filed}
 use Rattle.grib_table.specs.declared.together.Tables.{Tables}
-use Rattle.grib_table.specs.Tabled.{Stood}
 use Rattle.grib_table.specs.Together.{Asked, Together, AllGood, TableRefused, SurfacesRefused, Texts, together, AllStood}
 use Rattle.grib_stream.specs.declared.outcome.Outcome.{Outcome}
 use Rattle.grib_stream.specs.declared.outcome.Outcome.TheVariants as outcomes

@@ -7,8 +7,8 @@ use Rattle.grib_stream.specs.Answer.{Answer, answer_within}
 use Rattle.grib_stream.specs.declared.outcome.Outcome.{Outcome}
 use Rattle.grib_stream.specs.declared.outcome.Outcome.TheVariants as outcomes
 use Rattle.grib_stream.specs.declared.outcome.Outcome.TheVariants.{Done}
-use Rattle.grib_repack.specs.declared.target.RepackTarget.{RepackTarget}
-use Rattle.grib_repack.specs.Faults.{target_of}
+use Rattle.grib_packing.specs.declared.target.RepackTarget.{RepackTarget}
+use Rattle.grib_packing.specs.Targets.{target_of}
 use Rattle.grib_repack.specs.Repacked.{repacked}
 use Rattle.grib_synthetic.specs.Points.{made_points}
 use Rattle.grib_synthetic.specs.Summary.{present_count, present_sum}

@@ -1,5 +1,5 @@
 -- Whole numbers by their digits.
-use Rattle.std.proofs.Common.{◌≡◌, ℕ, suc, ◌+◌, ◌-◌, ◌*◌, ◌/◌, ◌%◌, ◌^◌, ◌<◌, ◌≤◌, ◌↔◌, List, [], ◌∷◌, ◌++◌, length, get_or, take, drop, Bool, IsTrue, Result, Ok, Err, IfOk, FitsSigned, nat_abs, ℤ, pos, negsuc, neg_ℤ, ◌+ℤ◌, ◌*ℤ◌, ◌≤ℤ◌, ◌<ℤ◌, refl, sym, ap, ◌∙◌, arith}
+use Rattle.std.proofs.Common.{◌≡◌, ℕ, suc, ◌+◌, ◌-◌, ◌*◌, ◌/◌, ◌%◌, ◌^◌, ◌<◌, ◌≤◌, ◌↔◌, List, [], ◌∷◌, ◌++◌, length, get_or, take, drop, Bool, IsTrue, FitsSigned, nat_abs, ℤ, pos, negsuc, neg_ℤ, ◌+ℤ◌, ◌*ℤ◌, ◌≤ℤ◌, ◌<ℤ◌, refl, sym, ap, ◌∙◌, arith}
 use Rattle.std.proofs.Math.Nat.{mul_comm, mul-le-mul}
 use Rattle.std.proofs.lemmas.Int.{ints}
 use Rattle.std.specs.Int.{int_div_euclid, int_rem_euclid, w64, w128}
@@ -141,11 +141,6 @@ module _ (xs ys : List ℕ) (s t : ℤ) (i : ℕ) (within : i < length xs) (with
 
   pub both_differ : (get_or xs i 0 ≡ get_or ys i 0 → ⊥) → number_of (drop i xs) s ≡ number_of (drop i ys) t → ⊥
   both_differ differs e = differs (both_given e).0
-
--- what is said of a number holds of it in another form
-pub if_ok : {T E : Type 0} (r : Result T E) (P Q : T → Type 0) → ((t : T) → P t → Q t) → IfOk r P → IfOk r Q
-if_ok (Ok t) P Q f h = f t h
-if_ok (Err e) P Q f h = tt
 
 -- where the digits of the lesser number end
 pub same_end : (xs ys : List ℕ) (s t : ℤ) (i : ℕ) (r : Bool) → i ≤ length xs → length xs ≤ i → IsTrue r ↔ (number_of (take (length ys - length xs) (drop (length xs) ys)) t ≡ s) → (number_of xs s ≡ number_of ys t) ↔ (number_of (drop i xs) s ≡ number_of (drop i ys) t) → IsTrue r ↔ (number_of xs s ≡ number_of ys t)

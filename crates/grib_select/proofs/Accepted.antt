@@ -33,7 +33,7 @@ octets_of_all (s ∷ before) = length s.octets + octets_of_all before
 pub sound_of : (profile : Profile) (before : List Placed) → AreAccepted profile before → AreSound profile before
 sound_of profile [] h = sound_none profile
 sound_of profile (s ∷ before) h =
-    sound_after profile s before (sound_of profile before h.1) (follows_tells (last_number before) (section_number s.octets) h.0.follows) h.0.rows_hold
+    sound_after profile s before (sound_of profile before h.1) (follows_tells (last_number before) (section_number s.octets) h.0.follows) h.0.rules_hold
 
 -- ---- up to the end of a field
 

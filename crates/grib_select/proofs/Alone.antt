@@ -3,7 +3,7 @@ use Rattle.std.proofs.Common.{◌≡◌, ◌≢◌, ℕ, ◌+◌, ◌-◌, ◌�
 use Rattle.std.specs.List.{concat, count_by}
 use Rattle.std.proofs.lemmas.Bool.{cases_eq}
 use Rattle.grib_bits.specs.Octets.{StatesItself}
-use Rattle.grib_base.specs.Rows.{located, choose}
+use Rattle.grib_base.specs.Rules.{located, choose}
 use Rattle.grib_base.specs.declared.limits.TheConstants.{MOST_OCTETS}
 use Rattle.grib_packing.specs.Entries.{column_from}
 use Rattle.grib_bitmap.specs.Mask.{bitmap_indicator}
@@ -150,7 +150,7 @@ module _ (profile : Profile) (m : List ℕ) (i : ℕ) (h : IsMessageUnder profil
         product = sound.product (omega (arith, up.ends));
         packing = sound.packing (omega (arith, up.ends));
         alone = b.alone;
-        bitmap = b.rows;
+        bitmap = b.rules;
         values = sound.values (omega (arith, up.ends));
       }
 

@@ -9,7 +9,7 @@ use Rattle.grib_bits.proofs.OctetBits.{AreOctets}
 use Rattle.grib_bits.proofs.OctetNumbers.{AreOctets-take, AreOctets-octet_list, octets-lt, signed-octets}
 use Rattle.grib_bits.proofs.Listed.{AreOctets-from_All}
 use Rattle.grib_bits.proofs.Signs.{signed-clear, signed-set}
-use Rattle.grib_base.specs.Rows.{choose}
+use Rattle.grib_base.specs.Rules.{choose}
 use Rattle.grib_base.specs.declared.profile.Profile.{Profile}
 use Rattle.grib2_sections.specs.Frame.{Placed, placed_at, ends_at, section_at}
 use Rattle.grib2_message.specs.View.{is_numbered, section_in_force, octets_in_force}
@@ -23,10 +23,10 @@ use Rattle.grib_keys.specs.declared.condition.Value.{Value}
 use Rattle.grib_keys.specs.declared.condition.Value.TheVariants.{Number, Missing}
 use Rattle.grib_keys.specs.declared.table.Kind.{Kind}
 use Rattle.grib_keys.specs.declared.table.Octets.{Octets}
-use Rattle.grib_keys.specs.Keys.{row_of}
+use Rattle.grib_keys.specs.Keys.{row_of, key_place}
 use Rattle.grib_select.specs.Values.{key_section, layout_of, octet_count, is_all_ones, value_at, key_value_of, HasKeys, IsWithin}
 use Rattle.grib_select.proofs.Accepted.{field_up_to, sound_of}
-use Rattle.grib_select.proofs.Changes.{shape_tells}
+use Rattle.grib_select.proofs.Places.{shape_tells}
 use Rattle.grib_select.proofs.Within.{part_keys, has_keys, head_within, and_first, and_second}
 use Rattle.grib_select.specs.Bounds.{IsWithin64}
 
@@ -161,7 +161,7 @@ values_within profile m i key value h small low high has =
     let s = key_section m i n in
     let known = section_octets m i n (AreOctets-from_All m small) in
     let stand = keys_stand profile m i key h low high in
-    some_value (row_of key).kind s ((row_of key).place (layout_of n s)) value has
+    some_value (row_of key).kind s (key_place key (layout_of n s)) value has
     (λ p at.
     let shape = shape_tells key (layout_of n s) p at in
     value_within s p known (record { low = shape.low; high = stand.keys key p refl at; some = shape.some; few = shape.few }) (row_of key).kind)

@@ -3,23 +3,23 @@ use Rattle.std.proofs.Common.{◌≡◌, ◌≢◌, ℕ, ◌+◌, Bool, true, fa
 use Rattle.std.specs.List.{count_by}
 use Rattle.std.proofs.lemmas.Bool.{cases_eq, not-false}
 use Rattle.grib_bits.specs.Octets.{StatesItself}
-use Rattle.grib_base.specs.Rows.{first_fault, located}
-use Rattle.grib_bitmap.specs.Mask.{bitmap_indicator, bitmap_rows, mask_of, own_mask, present_count}
+use Rattle.grib_base.specs.Rules.{first_fault, located}
+use Rattle.grib_bitmap.specs.Mask.{bitmap_indicator, bitmap_rules, mask_of, own_mask, present_count}
 use Rattle.grib_packing.specs.Packing.{value_count}
 use Rattle.grib_packing.specs.Entries.{packing_fault_under, data_fault}
 use Rattle.grib_base.specs.declared.profile.Profile.{Profile}
 use Rattle.grib2_sections.specs.Frame.{Placed, placed_at, section_number, may_follow, may_end}
 use Rattle.grib2_grids.specs.Grid.{grid_points}
-use Rattle.grib2_grids.specs.Opaque.{grid_rows_under}
-use Rattle.grib2_products.specs.Opaque.{product_rows_under}
+use Rattle.grib2_grids.specs.Opaque.{grid_rules_under}
+use Rattle.grib2_products.specs.Opaque.{product_rules_under}
 use Rattle.grib2_message.specs.View.{is_numbered, last_number, octets_in_force, points_in_force, earlier_bitmap, first_octets, own_bitmap, bitmap_mask, earlier_mask, mask_in_force, section_count}
-use Rattle.grib2_message.specs.Acceptance.{no_rows, contents_faults}
+use Rattle.grib2_message.specs.Acceptance.{no_rules, contents_faults}
 use Rattle.grib2_message.specs.Grammar.{IsSection, AreSections}
 use Rattle.grib2_message.specs.Fields.{sections_up_to_field}
 use Rattle.grib2_message.proofs.Passed.{passes_from_none}
 use Rattle.grib2_message.proofs.Walk.{second_fails}
 use Rattle.grib2_message.proofs.Latest.{octets_same, octets_other, own_alone, own_repeated}
-use Rattle.grib2_message.proofs.Bitmaps.{mask_alone, rows_alone, mask_from_own, own_tells}
+use Rattle.grib2_message.proofs.Bitmaps.{mask_alone, rules_alone, mask_from_own, own_tells}
 use Rattle.grib2_message.proofs.Sound.{none_located, fault_of, earlier_kept, earlier_not_own, bitmap_own, bitmap_kept, bitmap_not_own, mask_here, mask_kept, points_kept, count_other}
 use Rattle.grib2_message.proofs.Placing.{placed_from}
 use Rattle.grib2_message.proofs.Ways.{up_here, up_other}
@@ -54,7 +54,7 @@ earlier_accepted profile (s ∷ before) h some =
 pub record StandsAlone (before : List Placed) (b : List ℕ) : Type 0 where
   pub itself : StatesItself 6 b
   pub alone : bitmap_indicator b ≢ 254
-  pub rows : first_fault (bitmap_rows b (points_in_force before) (value_count (octets_in_force 5 before)) None) ≡ None
+  pub rules : first_fault (bitmap_rules b (points_in_force before) (value_count (octets_in_force 5 before)) None) ≡ None
   pub mask : mask_of b (points_in_force before) None ≡ mask_in_force before
 
 module _ (profile : Profile) (before : List Placed) (h : AreAccepted profile before) (ends : last_number before ≡ 7) where
@@ -67,15 +67,15 @@ module _ (profile : Profile) (before : List Placed) (h : AreAccepted profile bef
       record {
         itself = part_itself profile 6 before h (omega arith) (omega (arith, ends)) (λ e. absurd (omega arith));
         alone = other;
-        rows = rows_alone s points values other None (earlier_mask before) ∙ sound.bitmap (omega (arith, ends));
+        rules = rules_alone s points values other None (earlier_mask before) ∙ sound.bitmap (omega (arith, ends));
         mask = mask_alone s points 0 other None (earlier_mask before) ∙ sym (sound.mask (omega (arith, ends)));
       }
 
   there_is : bitmap_indicator (octets_in_force 6 before) ≡ 254 → earlier_mask before ≢ None
   there_is repeats none =
       let s = octets_in_force 6 before in
-      let rows = passes_from_none (bitmap_rows s (points_in_force before) (value_count (octets_in_force 5 before)) (earlier_mask before)) ((sound_of profile before h).bitmap (omega (arith, ends))) in
-      let off : is_none (earlier_mask before) ≡ false = second_fails (bitmap_indicator s == 254) (is_none (earlier_mask before)) rows.1.1.0 (eq-eqb _ 254 repeats) in
+      let rules = passes_from_none (bitmap_rules s (points_in_force before) (value_count (octets_in_force 5 before)) (earlier_mask before)) ((sound_of profile before h).bitmap (omega (arith, ends))) in
+      let off : is_none (earlier_mask before) ≡ false = second_fails (bitmap_indicator s == 254) (is_none (earlier_mask before)) rules.1.1.0 (eq-eqb _ 254 repeats) in
       let on : is_none (earlier_mask before) ≡ true = ap is_none none in
       absurd (cc)
 
@@ -85,31 +85,31 @@ module _ (profile : Profile) (before : List Placed) (h : AreAccepted profile bef
       let points = points_in_force before in
       let values = value_count (octets_in_force 5 before) in
       let sound = sound_of profile before h in
-      let none : first_fault (bitmap_rows s points values (earlier_mask before)) ≡ None = sound.bitmap (omega (arith, ends)) in
-      let rows = passes_from_none (bitmap_rows s points values (earlier_mask before)) none in
+      let none : first_fault (bitmap_rules s points values (earlier_mask before)) ≡ None = sound.bitmap (omega (arith, ends)) in
+      let rules = passes_from_none (bitmap_rules s points values (earlier_mask before)) none in
       let b = e.first.octets in
       let its_points = points_in_force e.rest in
       let its_values = value_count (octets_in_force 5 e.rest) in
       let mask_is : earlier_mask before ≡ Some (own_mask b its_points) = ap bitmap_mask e.is in
       let other : bitmap_indicator b ≢ 254 = λ same. absurd (omega (arith, e.own)) in
-      let its_rows : first_fault (bitmap_rows b its_points its_values None) ≡ None =
-      rows_alone b its_points its_values other None (earlier_mask e.rest)
-      ∙ none_located e.first.start (first_fault (bitmap_rows b its_points its_values (earlier_mask e.rest)))
-      (sym (fault_of profile e.rest e.first 6 e.numbered) ∙ e.section.rows_hold) in
-      let told = own_tells b its_points its_values e.own its_rows in
+      let its_rules : first_fault (bitmap_rules b its_points its_values None) ≡ None =
+      rules_alone b its_points its_values other None (earlier_mask e.rest)
+      ∙ none_located e.first.start (first_fault (bitmap_rules b its_points its_values (earlier_mask e.rest)))
+      (sym (fault_of profile e.rest e.first 6 e.numbered) ∙ e.section.rules_hold) in
+      let told = own_tells b its_points its_values e.own its_rules in
       let force : mask_of s points (earlier_mask before) ≡ unwrap_or (earlier_mask before) [] =
       ap (λ (i : ℕ). cond (i == 255) (replicate points true) (cond (i == 254) (unwrap_or (earlier_mask before) []) (own_mask s points))) repeats in
       let held : unwrap_or (earlier_mask before) [] ≡ own_mask b its_points = ap (λ (o : Option (List Bool)). unwrap_or o []) mask_is in
       let size : length (unwrap_or (earlier_mask before) []) ≡ points =
       eqb-true _ points (not-false (length (unwrap_or (earlier_mask before) []) == points)
-      (second_fails (bitmap_indicator s == 254) (not (length (unwrap_or (earlier_mask before) []) == points)) rows.1.1.1.1.0 (eq-eqb _ 254 repeats))) in
-      let present : present_count (mask_of s points (earlier_mask before)) ≡ values = eqb-true _ _ (not-false _ rows.1.1.1.1.1.0) in
+      (second_fails (bitmap_indicator s == 254) (not (length (unwrap_or (earlier_mask before) []) == points)) rules.1.1.1.1.0 (eq-eqb _ 254 repeats))) in
+      let present : present_count (mask_of s points (earlier_mask before)) ≡ values = eqb-true _ _ (not-false _ rules.1.1.1.1.1.0) in
       let same_points : its_points ≡ points = sym told.0 ∙ ap length (sym held) ∙ size in
       let same_values : its_values ≡ values = sym told.1 ∙ ap present_count (sym (force ∙ held)) ∙ present in
       record {
         itself = record { length_stands = e.section.length_stands; least = e.section.least; number_stands = e.numbered };
         alone = other;
-        rows = sym (λ i. first_fault (bitmap_rows b (same_points i) (same_values i) None)) ∙ its_rows;
+        rules = sym (λ i. first_fault (bitmap_rules b (same_points i) (same_values i) None)) ∙ its_rules;
         mask = mask_from_own b points e.own None ∙ ap (own_mask b) (sym same_points) ∙ sym (sound.mask (omega (arith, ends)) ∙ force ∙ held);
       }
 
@@ -124,26 +124,26 @@ module _ (profile : Profile) (before : List Placed) (h : AreAccepted profile bef
 -- ---- Sections 3 to 7 of a field after Section 1 or 2
 
 pub stands_here : (profile : Profile) (before : List Placed) (q n : ℕ) (s : List ℕ) → StatesItself n s → IsTrue (may_follow (last_number before) n)
-    → get_or (contents_faults profile) n no_rows before (placed_at q s) ≡ None → IsSection profile before q s
-stands_here profile before q n s itself follows rows = record {
+    → get_or (contents_faults profile) n no_rules before (placed_at q s) ≡ None → IsSection profile before q s
+stands_here profile before q n s itself follows rules = record {
   length_stands = itself.length_stands;
   least = itself.least;
   follows = ap (may_follow (last_number before)) itself.number_stands ∙ follows;
-  rows_hold = fault_of profile before (placed_at q s) n itself.number_stands ∙ rows;
+  rules_hold = fault_of profile before (placed_at q s) n itself.number_stands ∙ rules;
 }
 
--- sections that no row refuses
+-- sections that no rule refuses
 pub record Parts (profile : Profile) (p3 p4 p5 p6 p7 : List ℕ) : Type 0 where
   pub itself_3 : StatesItself 3 p3
   pub itself_4 : StatesItself 4 p4
   pub itself_5 : StatesItself 5 p5
   pub itself_6 : StatesItself 6 p6
   pub itself_7 : StatesItself 7 p7
-  pub grid : first_fault (grid_rows_under profile p3) ≡ None
-  pub product : first_fault (product_rows_under profile p4 1) ≡ None
+  pub grid : first_fault (grid_rules_under profile p3) ≡ None
+  pub product : first_fault (product_rules_under profile p4 1) ≡ None
   pub packing : packing_fault_under profile p5 (grid_points p3) ≡ None
   pub alone : bitmap_indicator p6 ≢ 254
-  pub bitmap : first_fault (bitmap_rows p6 (grid_points p3) (value_count p5) None) ≡ None
+  pub bitmap : first_fault (bitmap_rules p6 (grid_points p3) (value_count p5) None) ≡ None
   pub values : data_fault p5 p7 ≡ None
 
 -- what is in force at the end of the field
@@ -219,15 +219,15 @@ module _ (profile : Profile) (head : List Placed) (q : ℕ) (p3 p4 p5 p6 p7 : Li
         stands_here profile head q 3 p3 h.itself_3 follows (ap (located q) h.grid),
         (
           stands_here profile (s3 ∷ head) q4 4 p4 h.itself_4 (after 3 4 p3 h.itself_3 refl)
-              (ap (λ (n : ℕ). located q4 (first_fault (product_rows_under profile p4 n))) count ∙ ap (located q4) h.product),
+              (ap (λ (n : ℕ). located q4 (first_fault (product_rules_under profile p4 n))) count ∙ ap (located q4) h.product),
           (
             stands_here profile (s4 ∷ s3 ∷ head) q5 5 p5 h.itself_5 (after 4 5 p4 h.itself_4 refl)
                 (ap (λ (n : ℕ). located q5 (packing_fault_under profile p5 n)) points_4 ∙ ap (located q5) h.packing),
             (
               stands_here profile (s5 ∷ s4 ∷ s3 ∷ head) q6 6 p6 h.itself_6 (after 5 6 p5 h.itself_5 refl)
                   (ap (located q6)
-                  ((λ i. first_fault (bitmap_rows p6 (points_5 i) (value_count (five_5 i)) (earlier_mask (s5 ∷ s4 ∷ s3 ∷ head))))
-                  ∙ rows_alone p6 (grid_points p3) (value_count p5) h.alone (earlier_mask (s5 ∷ s4 ∷ s3 ∷ head)) None ∙ h.bitmap)),
+                  ((λ i. first_fault (bitmap_rules p6 (points_5 i) (value_count (five_5 i)) (earlier_mask (s5 ∷ s4 ∷ s3 ∷ head))))
+                  ∙ rules_alone p6 (grid_points p3) (value_count p5) h.alone (earlier_mask (s5 ∷ s4 ∷ s3 ∷ head)) None ∙ h.bitmap)),
               (
                 stands_here profile (s6 ∷ s5 ∷ s4 ∷ s3 ∷ head) q7 7 p7 h.itself_7 (after 6 7 p6 h.itself_6 refl)
                     (ap (located q7) (ap (λ x. data_fault x p7) five_6 ∙ h.values)),

@@ -3,7 +3,7 @@ use Rattle.std.proofs.Common.{◌≡◌, ℕ, ◌+◌, ◌-◌, ◌<◌, ◌≤�
 use Rattle.std.specs.List.{concat}
 use Rattle.std.proofs.lemmas.List.{take_all, take_rest, take-append-drop}
 use Rattle.grib_bits.specs.Octets.{StatesItself}
-use Rattle.grib_base.specs.Rows.{choose}
+use Rattle.grib_base.specs.Rules.{choose}
 use Rattle.grib_base.specs.declared.profile.Profile.TheVariants.{Open}
 use Rattle.grib2_sections.specs.Frame.{Placed, placed_at, Position, position_after, End, Next, step_from}
 use Rattle.grib2_sections.specs.Head.{end_mark}

@@ -4,17 +4,17 @@ use Rattle.std.specs.Prelude.{All}
 use Rattle.std.specs.List.{concat}
 use Rattle.std.proofs.lemmas.Bool.{cases_eq}
 use Rattle.std.proofs.lemmas.List.Elements.{All-tail}
-use Rattle.grib_base.specs.Rows.{first_fault, located}
-use Rattle.grib_bitmap.specs.Mask.{bitmap_indicator, bitmap_rows, mask_of, own_mask}
+use Rattle.grib_base.specs.Rules.{first_fault, located}
+use Rattle.grib_bitmap.specs.Mask.{bitmap_indicator, bitmap_rules, mask_of, own_mask}
 use Rattle.grib_packing.specs.Packing.{value_count}
 use Rattle.grib_packing.specs.Entries.{packing_fault_under, data_fault, column_from}
 use Rattle.grib_base.specs.declared.profile.Profile.{Profile}
 use Rattle.grib2_sections.specs.Frame.{Placed, placed_at, section_number, may_end}
 use Rattle.grib2_sections.specs.Head.{end_mark}
 use Rattle.grib2_grids.specs.Grid.{grid_points}
-use Rattle.grib2_products.specs.Opaque.{product_rows_under}
+use Rattle.grib2_products.specs.Opaque.{product_rules_under}
 use Rattle.grib2_message.specs.View.{last_number, octets_in_force, points_in_force, earlier_mask, mask_in_force, section_count}
-use Rattle.grib2_message.specs.Acceptance.{section_fault_under, contents_faults, no_rows}
+use Rattle.grib2_message.specs.Acceptance.{section_fault_under, contents_faults, no_rules}
 use Rattle.grib2_message.specs.Grammar.{IsSection, AreSections, GrammarUnder}
 use Rattle.grib2_message.specs.Fields.{sections_of, field_count, field_sections, column_of}
 use Rattle.grib2_message.specs.Message.{IsMessageUnder}
@@ -116,37 +116,37 @@ masks_same (s ∷ before) (t ∷ others) h =
           }
     ]
 
--- ---- the rows of a section with its changes
+-- ---- the rules of a section with its changes
 
 module _ (profile : Profile) (before others : List Placed) (q : ℕ) (s t : List ℕ) (is : IsSection profile before q s) (along : Along Fits before others) (f : Fits (placed_at q s) (placed_at q t)) where
-  as_number : (n : ℕ) → section_number s ≡ n → get_or (contents_faults profile) n no_rows before (placed_at q s) ≡ None
-  as_number n e = sym (fault_of profile before (placed_at q s) n e) ∙ is.rows_hold
+  as_number : (n : ℕ) → section_number s ≡ n → get_or (contents_faults profile) n no_rules before (placed_at q s) ≡ None
+  as_number n e = sym (fault_of profile before (placed_at q s) n e) ∙ is.rules_hold
 
   like : (n : ℕ) → section_number s ≡ n → AreAlike n s t
   like n e = subst (λ (k : ℕ). AreAlike k s t) e f.alike
 
-  rows_by : (n : ℕ) → section_number s ≡ n → get_or (contents_faults profile) n no_rows others (placed_at q t) ≡ get_or (contents_faults profile) n no_rows before (placed_at q s)
+  rules_by : (n : ℕ) → section_number s ≡ n → get_or (contents_faults profile) n no_rules others (placed_at q t) ≡ get_or (contents_faults profile) n no_rules before (placed_at q s)
       → section_fault_under profile others (placed_at q t) ≡ None
-  rows_by n e same = fault_of profile others (placed_at q t) n (f.numbered ∙ e) ∙ same ∙ as_number n e
+  rules_by n e same = fault_of profile others (placed_at q t) n (f.numbered ∙ e) ∙ same ∙ as_number n e
 
   rows_of : (n : ℕ) → section_number s ≡ n → 1 ≤ n → n ≤ 7 → section_fault_under profile others (placed_at q t) ≡ None
   rows_of n e low high = elim (cases_eq n 1) [
-    | inl one ↦ (let e' : section_number s ≡ 1 = e ∙ one in rows_by 1 e' (ap (λ rows. located q (first_fault rows)) (alike_identification s t (like 1 e'))))
+    | inl one ↦ (let e' : section_number s ≡ 1 = e ∙ one in rules_by 1 e' (ap (λ rules. located q (first_fault rules)) (alike_identification s t (like 1 e'))))
     | inr not_1 ↦ elim (cases_eq n 2) [
-      | inl two ↦ rows_by 2 (e ∙ two) refl
+      | inl two ↦ rules_by 2 (e ∙ two) refl
       | inr not_2 ↦ elim (cases_eq n 3) [
-        | inl three ↦ (let e' : section_number s ≡ 3 = e ∙ three in rows_by 3 e' (ap (λ rows. located q (first_fault rows)) (alike_grid_under profile s t (like 3 e'))))
+        | inl three ↦ (let e' : section_number s ≡ 3 = e ∙ three in rules_by 3 e' (ap (λ rules. located q (first_fault rules)) (alike_grid_under profile s t (like 3 e'))))
         | inr not_3 ↦ elim (cases_eq n 4) [
           | inl four ↦
               let e' : section_number s ≡ 4 = e ∙ four in
-              rows_by 4 e' (ap (λ (k : ℕ). located q (first_fault (product_rows_under profile t (k + 1)))) (count_along Fits fits_number 4 before others along)
-              ∙ ap (λ rows. located q (first_fault rows)) (alike_product_under profile s t (section_count 4 before + 1) (like 4 e')))
+              rules_by 4 e' (ap (λ (k : ℕ). located q (first_fault (product_rules_under profile t (k + 1)))) (count_along Fits fits_number 4 before others along)
+              ∙ ap (λ rules. located q (first_fault rules)) (alike_product_under profile s t (section_count 4 before + 1) (like 4 e')))
           | inr not_4 ↦ elim (cases_eq n 5) [
             | inl five ↦
                 let e' : section_number s ≡ 5 = e ∙ five in
                 let same : t ≡ s = f.same (inr (inl e')) in
                 let points = points_same before others along in
-                rows_by 5 e' (λ i. located q (packing_fault_under profile (same i) (points i)))
+                rules_by 5 e' (λ i. located q (packing_fault_under profile (same i) (points i)))
             | inr not_5 ↦ elim (cases_eq n 6) [
               | inl six ↦
                   let e' : section_number s ≡ 6 = e ∙ six in
@@ -154,12 +154,12 @@ module _ (profile : Profile) (before others : List Placed) (q : ℕ) (s t : List
                   let points = points_same before others along in
                   let five = octets_same 5 (inr (inl refl)) before others along in
                   let masks = masks_same before others along in
-                  rows_by 6 e' (λ i. located q (first_fault (bitmap_rows (same i) (points i) (value_count (five i)) (masks.earlier i))))
+                  rules_by 6 e' (λ i. located q (first_fault (bitmap_rules (same i) (points i) (value_count (five i)) (masks.earlier i))))
               | inr not_6 ↦
                   let e' : section_number s ≡ 7 = e ∙ (let seven : n ≡ 7 = omega arith in seven) in
                   let same : t ≡ s = f.same (inr (inr (inr e'))) in
                   let five = octets_same 5 (inr (inl refl)) before others along in
-                  rows_by 7 e' (λ i. located q (data_fault (five i) (same i)))
+                  rules_by 7 e' (λ i. located q (data_fault (five i) (same i)))
             ]
           ]
         ]
@@ -175,7 +175,7 @@ module _ (profile : Profile) (before others : List Placed) (q : ℕ) (s t : List
         length_stands = alike_octets n 1 4 s t f.alike (omega arith) (omega arith) (fixed_length n) ∙ is.length_stands ∙ sym f.alike.long;
         least = omega (arith, is.least, f.alike.long);
         numbered = f.numbered;
-        rows_hold = rows_of n refl range.0 range.1;
+        rules_hold = rows_of n refl range.0 range.1;
       }
 
 -- a section with changes fits it
@@ -183,7 +183,7 @@ changed_fits : (profile : Profile) (changes : List Change) (before : List Placed
 changed_fits profile changes before q s set is =
     let n = section_number s in
     let range = in_range (last_number before) n (follows_tells (last_number before) n is.follows) in
-    let alike = changes_alike changes n s (ready n s (section_keys profile before (placed_at q s) n refl range.0 range.1 is.rows_hold)) set in
+    let alike = changes_alike changes n s (ready n s (section_keys profile before (placed_at q s) n refl range.0 range.1 is.rules_hold)) set in
     record {
       numbered = alike_octets n 5 5 s (changed changes s) alike (omega arith) (omega arith) (fixed_number n);
       alike = alike;

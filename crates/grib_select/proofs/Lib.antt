@@ -8,6 +8,7 @@ pub mod Cut
 pub mod Front
 pub mod Kept
 pub mod Numbers
+pub mod Places
 pub mod Puts
 pub mod Sections
 pub mod Sole

@@ -2,9 +2,9 @@
 use Rattle.std.proofs.Common.{◌≡◌, ℕ, ◌+◌, ◌≤◌, Bool, true, false, ◌||◌, ◌==◌, IsTrue, List, [], ◌∷◌, length, refl, sym, ◌∙◌, arith, length-append, eqb-true, ltb-false}
 use Rattle.std.specs.List.{concat}
 use Rattle.grib_base.specs.declared.profile.Profile.{Profile}
-use Rattle.grib_base.specs.Rows.{first_fault}
+use Rattle.grib_base.specs.Rules.{first_fault}
 use Rattle.grib2_sections.specs.Frame.{placed_at, section_number, may_follow}
-use Rattle.grib2_sections.specs.Identification.{identification_rows}
+use Rattle.grib2_sections.specs.Identification.{identification_rules}
 use Rattle.grib2_message.specs.Grammar.{AreSections}
 use Rattle.grib2_message.specs.Message.{IsMessageUnder}
 use Rattle.grib2_message.proofs.Parted.{message_parted, message_states}
@@ -27,6 +27,6 @@ long_first profile m h = let f = message_parted profile m h in by f.sections f.f
     by (s ∷ sections) follow ends =
         let is = follow.0 in
         let number = first_number (section_number s) is.follows in
-        let none = none_located 17 (first_fault (identification_rows s)) (sym (fault_of profile [] (placed_at 17 s) 1 number) ∙ is.rows_hold) in
-        let long = ltb-false (length s) 21 (passes_from_none (identification_rows s) none).0 in
+        let none = none_located 17 (first_fault (identification_rules s)) (sym (fault_of profile [] (placed_at 17 s) 1 number) ∙ is.rules_hold) in
+        let long = ltb-false (length s) 21 (passes_from_none (identification_rules s) none).0 in
         omega (arith, long, ends, length-append s (concat sections))

@@ -12,11 +12,12 @@ use Rattle.grib_keys.specs.declared.condition.Value.TheVariants.{Number, Missing
 use Rattle.grib_keys.specs.declared.condition.Change.{Change}
 use Rattle.grib_keys.specs.declared.table.Octets.{Octets}
 use Rattle.grib_keys.specs.declared.table.Kind.{Kind}
-use Rattle.grib_keys.specs.Keys.{row_of, can_set}
+use Rattle.grib_keys.specs.Keys.{row_of, key_place, can_set}
 use Rattle.std.specs.Prelude.{option_map}
 use Rattle.grib_select.specs.Values.{layout_of, octet_count, is_all_ones, value_at, value_in}
 use Rattle.grib_select.specs.Changed.{signed_number, unsigned_number, number_of, unless_missing, number_for, new_number, put_number, with_key, with_changes}
-use Rattle.grib_select.proofs.Changes.{CanBeSet, HasShape, IsReady, ready_stays, key_alike, with_key_here, with_key_other}
+use Rattle.grib_select.proofs.Changes.{CanBeSet, IsReady, ready_stays, key_alike, with_key_here, with_key_other}
+use Rattle.grib_select.proofs.Places.{HasShape}
 use Rattle.grib_select.proofs.Lanes.{places_apart}
 use Rattle.grib_select.proofs.Numbers.{some_octets}
 use Rattle.grib_select.proofs.Puts.{put-before, put-behind, put-here}
@@ -35,8 +36,8 @@ StandOnce (change ∷ changes) = NoneOf change.key changes × StandOnce changes
 
 module _ (n : ℕ) (key : Key) (set : can_set key ≡ true) (section : (row_of key).section ≡ n) where
   -- a change at the place of another key
-  other_place : (s : List ℕ) (p : Octets) (change : Change) (o : Option Octets) → IsReady n s → (row_of key).place (layout_of n s) ≡ Some p → key ≢ change.key
-      → can_set change.key ≡ true → (row_of change.key).section ≡ n → (row_of change.key).place (layout_of n s) ≡ o
+  other_place : (s : List ℕ) (p : Octets) (change : Change) (o : Option Octets) → IsReady n s → key_place key (layout_of n s) ≡ Some p → key ≢ change.key
+      → can_set change.key ≡ true → (row_of change.key).section ≡ n → key_place change.key (layout_of n s) ≡ o
       → octet_list (put_number change s o) p.first p.last ≡ octet_list s p.first p.last
   other_place s p change None r here differ also sec there = refl
   other_place s p change (Some q) r here differ also sec there =
@@ -49,27 +50,27 @@ module _ (n : ℕ) (key : Key) (set : can_set key ≡ true) (section : (row_of k
         | inr behind ↦ put-behind s q.first xs its.low (omega (arith, its.high, its.some, its.low)) p.first p.last (omega (arith, its.some, its.low))
       ]
 
-  one_keeps : (s : List ℕ) (p : Octets) (change : Change) → IsReady n s → (row_of key).place (layout_of n s) ≡ Some p → key ≢ change.key → can_set change.key ≡ true
+  one_keeps : (s : List ℕ) (p : Octets) (change : Change) → IsReady n s → key_place key (layout_of n s) ≡ Some p → key ≢ change.key → can_set change.key ≡ true
       → octet_list (with_key change n s) p.first p.last ≡ octet_list s p.first p.last
   one_keeps s p change r here differ also = elim (cases_eq (row_of change.key).section n) [
     | inl sec ↦
         ap (λ (t : List ℕ). octet_list t p.first p.last) (with_key_here change n s sec)
-        ∙ other_place s p change ((row_of change.key).place (layout_of n s)) r here differ also sec refl
+        ∙ other_place s p change (key_place change.key (layout_of n s)) r here differ also sec refl
     | inr other ↦ ap (λ (t : List ℕ). octet_list t p.first p.last) (with_key_other change n s other)
   ]
 
   -- changes of other keys leave them
-  others_keep : (changes : List Change) (s : List ℕ) (p : Octets) → IsReady n s → (row_of key).place (layout_of n s) ≡ Some p → NoneOf key changes → CanBeSet changes
+  others_keep : (changes : List Change) (s : List ℕ) (p : Octets) → IsReady n s → key_place key (layout_of n s) ≡ Some p → NoneOf key changes → CanBeSet changes
       → octet_list (with_changes changes n s) p.first p.last ≡ octet_list s p.first p.last
   others_keep [] s p r here none also = refl
   others_keep (change ∷ changes) s p r here none also =
       let alike = key_alike n s change r also.0 in
       let t = with_key change n s in
-      others_keep changes t p (ready_stays n s t alike r) (ap (row_of key).place (alike.layout) ∙ here) none.1 also.1
+      others_keep changes t p (ready_stays n s t alike r) (ap (key_place key) (alike.layout) ∙ here) none.1 also.1
       ∙ one_keeps s p change r here none.0 also.0
 
 -- the change of the key itself
-own_place : (n : ℕ) (s : List ℕ) (p : Octets) (change : Change) → IsReady n s → (row_of change.key).section ≡ n → (row_of change.key).place (layout_of n s) ≡ Some p
+own_place : (n : ℕ) (s : List ℕ) (p : Octets) (change : Change) → IsReady n s → (row_of change.key).section ≡ n → key_place change.key (layout_of n s) ≡ Some p
     → octet_list (with_key change n s) p.first p.last ≡ octets_of (octet_count p) (unwrap_or (new_number change) 0)
 own_place n s p change r section here =
     let its = r.within change.key p section here in
@@ -86,13 +87,13 @@ EachChange P (change ∷ changes) = P change × EachChange P changes
 -- the key of a change has its new octets in a section
 abbrev pub HasOctets : ℕ → List ℕ → List ℕ → Change → Type 0
 HasOctets n s t change =
-    (p : Octets) → (row_of change.key).section ≡ n → (row_of change.key).place (layout_of n s) ≡ Some p
+    (p : Octets) → (row_of change.key).section ≡ n → key_place change.key (layout_of n s) ≡ Some p
     → octet_list t p.first p.last ≡ octets_of (octet_count p) (unwrap_or (new_number change) 0)
 
 each_like : (n : ℕ) (s t u : List ℕ) (changes : List Change) → layout_of n t ≡ layout_of n s → EachChange (HasOctets n t u) changes → EachChange (HasOctets n s u) changes
 each_like n s t u [] same h = tt
 each_like n s t u (change ∷ changes) same h =
-    (λ p section here. h.0 p section (ap (row_of change.key).place same ∙ here), each_like n s t u changes same h.1)
+    (λ p section here. h.0 p section (ap (key_place change.key) same ∙ here), each_like n s t u changes same h.1)
 
 pub all_have : (changes : List Change) (n : ℕ) (s : List ℕ) → IsReady n s → CanBeSet changes → StandOnce changes → EachChange (HasOctets n s (with_changes changes n s)) changes
 all_have [] n s r set once = tt
@@ -101,7 +102,7 @@ all_have (change ∷ changes) n s r set once =
     let t = with_key change n s in
     let ready = ready_stays n s t alike r in (
       λ p section here.
-          others_keep n change.key set.0 section changes t p ready (ap (row_of change.key).place (alike.layout) ∙ here) once.0 set.1
+          others_keep n change.key set.0 section changes t p ready (ap (key_place change.key) (alike.layout) ∙ here) once.0 set.1
           ∙ own_place n s p change r section here,
       each_like n s t (with_changes changes n t) changes (alike.layout) (all_have changes n t ready set.1 once.1),
     )
@@ -190,14 +191,14 @@ module _ (kind : Kind) (t : List ℕ) (p : Octets) (raw : ℕ) (some : 1 ≤ oct
 
 -- a key that was set has its value in a section
 pub value_told : (n : ℕ) (s t : List ℕ) (change : Change) (raw : ℕ) (p : Octets) → (row_of change.key).section ≡ n → layout_of n t ≡ layout_of n s
-    → (row_of change.key).place (layout_of n s) ≡ Some p → HasShape change.key (layout_of n s) p → HasOctets n s t change → new_number change ≡ Some raw
+    → key_place change.key (layout_of n s) ≡ Some p → HasShape change.key (layout_of n s) p → HasOctets n s t change → new_number change ≡ Some raw
     → value_in change.key t ≡ Some change.value
 value_told n s t change raw p section template here shape has new =
     let kind = (row_of change.key).kind in
     let number : unwrap_or (new_number change) 0 ≡ raw = ap (λ (o : Option ℕ). unwrap_or o 0) new in
     let octets_are = has p section here ∙ ap (octets_of (octet_count p)) number in
-    let there : (row_of change.key).place (layout_of (row_of change.key).section t) ≡ Some p =
-    ap (λ (k : ℕ). (row_of change.key).place (layout_of k t)) section ∙ ap (row_of change.key).place template ∙ here in
+    let there : key_place change.key (layout_of (row_of change.key).section t) ≡ Some p =
+    ap (λ (k : ℕ). key_place change.key (layout_of k t)) section ∙ ap (key_place change.key) template ∙ here in
     let new_here : number_for kind (octet_count p) change.value ≡ Some raw = ap (λ (k : ℕ). number_for kind k change.value) shape.count ∙ new in
     ap (option_map (value_at kind t)) there
     ∙ ap Some (value_back kind t p raw (omega (arith, shape.some)) octets_are change.value new_here)

@@ -4,29 +4,29 @@ use Rattle.std.specs.List.{concat}
 use Rattle.std.proofs.lemmas.Bool.{cases_eq}
 use Rattle.std.proofs.lemmas.List.{take_rest, drop_all}
 use borrow.Rule.Slice.PartMut.{put_mid, post_of}
-use Rattle.grib_base.specs.Rows.{first_fault}
+use Rattle.grib_base.specs.Rules.{first_fault}
 use Rattle.grib_packing.specs.Entries.{packing_fault_under}
 use Rattle.grib_bits.specs.Encoding.{octets_of}
 use Rattle.grib_base.specs.declared.profile.Profile.{Profile}
 use Rattle.grib2_sections.specs.Frame.{Placed, placed_at, section_number}
-use Rattle.grib2_sections.specs.Identification.{identification_rows}
+use Rattle.grib2_sections.specs.Identification.{identification_rules}
 use Rattle.grib_bits.proofs.Encoding.{length-octets_of}
-use Rattle.grib2_grids.specs.Opaque.{grid_rows_under}
-use Rattle.grib2_products.specs.Opaque.{product_rows_under}
+use Rattle.grib2_grids.specs.Opaque.{grid_rules_under}
+use Rattle.grib2_products.specs.Opaque.{product_rules_under}
 use Rattle.grib2_message.specs.View.{points_in_force, section_count}
 use Rattle.grib2_message.specs.Acceptance.{section_fault_under}
 use Rattle.grib2_message.proofs.Sound.{none_located, fault_of}
 use Rattle.grib_keys.specs.declared.key.Key.{Key}
 use Rattle.grib_keys.specs.declared.key.Key.TheVariants.{Discipline}
 use Rattle.grib_keys.specs.declared.condition.Change.{Change}
-use Rattle.grib_keys.specs.Keys.{row_of}
+use Rattle.grib_keys.specs.Keys.{row_of, key_place}
 use Rattle.grib_keys.specs.declared.table.Octets.{Octets}
 use Rattle.grib_select.specs.Values.{layout_of, octet_count, HasKeys, IsWithin}
 use Rattle.grib_select.specs.Changed.{new_number, put_number, with_key, with_changes, changed}
 use Rattle.grib_select.proofs.Changes.{with_key_here}
 use Rattle.grib_select.proofs.Within.{has_keys, product_has_keys, identification_within, grid_within, packing_within}
 
--- ---- the keys of a section that no row refuses stand in it
+-- ---- the keys of a section that no rule refuses stand in it
 
 -- no key stands in Sections 2, 6 and 7
 nowhere_2 : (key : Key) → not ((row_of key).section == 2) ≡ true
@@ -53,15 +53,15 @@ section_keys profile before p n is low high none =
     let P : ℕ → Type 0 = λ k. HasKeys k s in
     let fault = λ (k : ℕ) (e : n ≡ k). sym (fault_of profile before p k (is ∙ e)) ∙ none in
     elim (cases_eq n 1) [
-      | inl e ↦ subst P (sym e) (has_keys 1 s (identification_within s (none_located p.start (first_fault (identification_rows s)) (fault 1 e))) (λ f. omega (arith, f)))
+      | inl e ↦ subst P (sym e) (has_keys 1 s (identification_within s (none_located p.start (first_fault (identification_rules s)) (fault 1 e))) (λ f. omega (arith, f)))
       | inr not_1 ↦ elim (cases_eq n 2) [
         | inl e ↦ subst P (sym e) (none_there 2 s nowhere_2 (λ f. omega (arith, f)))
         | inr not_2 ↦ elim (cases_eq n 3) [
-          | inl e ↦ subst P (sym e) (has_keys 3 s (grid_within profile s (none_located p.start (first_fault (grid_rows_under profile s)) (fault 3 e))) (λ f. omega (arith, f)))
+          | inl e ↦ subst P (sym e) (has_keys 3 s (grid_within profile s (none_located p.start (first_fault (grid_rules_under profile s)) (fault 3 e))) (λ f. omega (arith, f)))
           | inr not_3 ↦ elim (cases_eq n 4) [
             | inl e ↦
                 subst P (sym e) (product_has_keys profile s (section_count 4 before + 1)
-                (none_located p.start (first_fault (product_rows_under profile s (section_count 4 before + 1))) (fault 4 e)))
+                (none_located p.start (first_fault (product_rules_under profile s (section_count 4 before + 1))) (fault 4 e)))
             | inr not_4 ↦ elim (cases_eq n 5) [
               | inl e ↦
                   subst P (sym e) (has_keys 5 s (packing_within profile s (points_in_force before)
@@ -79,7 +79,7 @@ section_keys profile before p n is low high none =
 -- ---- a change as it is written
 
 pub put_is : (change : Change) (number : ℕ) (s : List ℕ) (p : Octets) (ys : List ℕ) → (row_of change.key).section ≡ number
-    → Some p ≡ (row_of change.key).place (layout_of (row_of change.key).section s) → IsWithin (length s) p
+    → Some p ≡ key_place change.key (layout_of (row_of change.key).section s) → IsWithin (length s) p
     → ys ≡ octets_of (octet_count p) (unwrap_or (new_number change) 0) ++ drop (octet_count p) (take (length s - (p.first - 1)) (drop (p.first - 1) s))
     → put_mid (p.first - 1) (length s - (p.first - 1)) s ys ≡ with_key change number s
 put_is change number s p ys section place within is =
@@ -96,8 +96,8 @@ put_is change number s p ys section place within is =
     let rest : drop n (take k (drop a s)) ≡ drop (a + length xs) s =
     ap (drop n) (take_rest s a) ∙ drop-drop n a s ∙ ap (λ (j : ℕ). drop j s) (let e : a + n ≡ a + length xs = omega arith in e) in
     let none : post_of a k s ≡ [] = drop_all k (drop a s) (omega (arith, length-drop a s)) in
-    let there : (row_of change.key).place (layout_of number s) ≡ Some p =
-    ap (λ (j : ℕ). (row_of change.key).place (layout_of j s)) (sym section) ∙ sym place in
+    let there : key_place change.key (layout_of number s) ≡ Some p =
+    ap (λ (j : ℕ). key_place change.key (layout_of j s)) (sym section) ∙ sym place in
     ap₂ (λ (zs ws : List ℕ). take a s ++ (zs ++ ws)) (is ∙ ap (λ (zs : List ℕ). xs ++ zs) rest) none
     ∙ ap (λ (zs : List ℕ). take a s ++ zs) (append-nil (xs ++ drop (a + length xs) s))
     ∙ sym (with_key_here change number s section ∙ ap (put_number change s) there)

@@ -14,8 +14,8 @@ use Rattle.grib_bits.proofs.OctetBits.{AreOctets, length-bits, num_on-bits, same
 use Rattle.grib_bits.proofs.OctetNumbers.{AreOctets-octet_list}
 use Rattle.grib_base.specs.declared.profile.Profile.{Profile}
 use Rattle.grib_base.specs.declared.profile.Profile.TheVariants.{Open}
-use Rattle.grib_base.specs.Rows.{first_fault}
-use Rattle.grib_bitmap.specs.Mask.{bitmap_indicator, bitmap_rows}
+use Rattle.grib_base.specs.Rules.{first_fault}
+use Rattle.grib_bitmap.specs.Mask.{bitmap_indicator, bitmap_rules}
 use Rattle.grib_packing.specs.Packing.{value_count}
 use Rattle.grib2_sections.specs.Head.{end_mark, total_length}
 use Rattle.grib2_sections.specs.Frame.{Placed, placed_at, section_number, may_follow, may_end}
@@ -116,10 +116,10 @@ ends_not last n is off e = let clash : true ≡ false = sym e ∙ (ap may_end is
 -- no Section 6 of it repeats an earlier one
 alone_here : (profile : Profile) (before : List Placed) (q : ℕ) (s : List ℕ) → IsSection profile before q s → section_number s ≡ 6 → earlier_mask before ≡ None → bitmap_indicator s ≢ 254
 alone_here profile before q s is six none repeats =
-    let rows = passes_from_none (bitmap_rows s (points_in_force before) (value_count (octets_in_force 5 before)) (earlier_mask before))
-    (none_located q (first_fault (bitmap_rows s (points_in_force before) (value_count (octets_in_force 5 before)) (earlier_mask before)))
-    (sym (fault_of profile before (placed_at q s) 6 six) ∙ is.rows_hold)) in
-    let off : is_none (earlier_mask before) ≡ false = second_fails (bitmap_indicator s == 254) (is_none (earlier_mask before)) rows.1.1.0 (eq-eqb _ 254 repeats) in
+    let rules = passes_from_none (bitmap_rules s (points_in_force before) (value_count (octets_in_force 5 before)) (earlier_mask before))
+    (none_located q (first_fault (bitmap_rules s (points_in_force before) (value_count (octets_in_force 5 before)) (earlier_mask before)))
+    (sym (fault_of profile before (placed_at q s) 6 six) ∙ is.rules_hold)) in
+    let off : is_none (earlier_mask before) ≡ false = second_fails (bitmap_indicator s == 254) (is_none (earlier_mask before)) rules.1.1.0 (eq-eqb _ 254 repeats) in
     let on : is_none (earlier_mask before) ≡ true = ap is_none none in
     absurd (cc)
 

@@ -7,15 +7,15 @@ use Rattle.grib_bits.specs.Octets.{octets, octet_list, num_on}
 use Rattle.grib_base.specs.declared.fault.Reason.TheVariants.{SectionLength, GridSource, GridTemplate, PointCount, ListShape, FieldCount, ProductTemplate}
 use Rattle.grib_base.specs.declared.profile.Profile.{Profile}
 use Rattle.grib_base.specs.declared.profile.Profile.TheVariants.{Stated, Open}
-use Rattle.grib_base.specs.Rows.{Row, row}
+use Rattle.grib_base.specs.Rules.{Rule, rule}
 use Rattle.grib_base.specs.declared.limits.TheConstants.{MOST_POINTS}
 use Rattle.grib2_sections.specs.Template.{is_template, least_length}
-use Rattle.grib2_sections.specs.Identification.{identification_rows}
-use Rattle.grib2_grids.specs.Grid.{grid_rows, grid_points, grid_template, grid_templates, list_octets, list_start, row_list, ni, nj, may_have_list}
-use Rattle.grib2_grids.specs.Opaque.{is_opaque_grid, grid_rows_under}
-use Rattle.grib2_products.specs.Opaque.{is_opaque_product, opaque_least, product_rows_under}
+use Rattle.grib2_sections.specs.Identification.{identification_rules}
+use Rattle.grib2_grids.specs.Grid.{grid_rules, grid_points, grid_template, grid_templates, list_octets, list_start, row_list, ni, nj, may_have_list}
+use Rattle.grib2_grids.specs.Opaque.{is_opaque_grid, grid_rules_under}
+use Rattle.grib2_products.specs.Opaque.{is_opaque_product, opaque_least, product_rules_under}
 use Rattle.grib_packing.specs.Entries.{is_packing, is_opaque_packing}
-use Rattle.grib2_products.specs.Product.{product_rows, product_templates, time_ranges}
+use Rattle.grib2_products.specs.Product.{product_rules, product_templates, time_ranges}
 use Rattle.grib_keys.specs.declared.table.Layout.{Layout}
 use Rattle.grib_select.specs.Values.{template_of, is_opaque, layout_of}
 
@@ -103,8 +103,8 @@ opaque_stays number s t h = elim (cases_eq number 3) [
   ]
 ]
 
-pub alike_identification : (s t : List ℕ) → AreAlike 1 s t → identification_rows t ≡ identification_rows s
-alike_identification s t h = ap (λ (l : ℕ). row (nat_lt l 21) 1 SectionLength l ∷ []) h.long
+pub alike_identification : (s t : List ℕ) → AreAlike 1 s t → identification_rules t ≡ identification_rules s
+alike_identification s t h = ap (λ (l : ℕ). rule (nat_lt l 21) 1 SectionLength l ∷ []) h.long
 
 -- ---- Section 3
 
@@ -166,24 +166,24 @@ module _ (s t : List ℕ) (h : AreAlike 3 s t) where
       ∙ list_sized s t (list_octets s) (list_start s) (min (nj s) ((length s + 1 - list_start s) / list_octets s)) h (start_low (grid_template s == 1))
 
 -- the rows of a grid by the numbers that they test
-grid_by : ℕ → ℕ → ℕ → ℕ → ℕ → ℕ → ℕ → ℕ → List ℕ → List Row
+grid_by : ℕ → ℕ → ℕ → ℕ → ℕ → ℕ → ℕ → ℕ → List ℕ → List Rule
 grid_by l source t points size meaning n_i n_j list =
     let listed = not (size == 0) in
     let f = cond (t == 1) 85 73 in
-    row (nat_lt l 14) 1 SectionLength l
-    ∷ row (not (source == 0)) 6 GridSource source
-    ∷ row (not (is_template grid_templates t)) 13 GridTemplate t
-    ∷ row (nat_lt l (least_length grid_templates t)) 1 SectionLength l
-    ∷ row (points == 0 || nat_lt MOST_POINTS points) 7 PointCount points
-    ∷ row (listed && not (meaning == 1) && not (meaning == 2)) 12 ListShape meaning
-    ∷ row (nat_lt 4 size || (listed && not (may_have_list t))) 11 ListShape size
-    ∷ row (listed && (n_j == 0 || n_j == 4294967295)) 35 ListShape n_j
-    ∷ row (listed && nat_lt l (f - 1 + size * n_j)) f ListShape n_j
-    ∷ row (listed && not (sum list == points)) 7 PointCount (sum list)
-    ∷ row (not listed && not (n_i * n_j == points)) 7 PointCount (n_i * n_j)
+    rule (nat_lt l 14) 1 SectionLength l
+    ∷ rule (not (source == 0)) 6 GridSource source
+    ∷ rule (not (is_template grid_templates t)) 13 GridTemplate t
+    ∷ rule (nat_lt l (least_length grid_templates t)) 1 SectionLength l
+    ∷ rule (points == 0 || nat_lt MOST_POINTS points) 7 PointCount points
+    ∷ rule (listed && not (meaning == 1) && not (meaning == 2)) 12 ListShape meaning
+    ∷ rule (nat_lt 4 size || (listed && not (may_have_list t))) 11 ListShape size
+    ∷ rule (listed && (n_j == 0 || n_j == 4294967295)) 35 ListShape n_j
+    ∷ rule (listed && nat_lt l (f - 1 + size * n_j)) f ListShape n_j
+    ∷ rule (listed && not (sum list == points)) 7 PointCount (sum list)
+    ∷ rule (not listed && not (n_i * n_j == points)) 7 PointCount (n_i * n_j)
     ∷ []
 
-pub alike_grid : (s t : List ℕ) → AreAlike 3 s t → grid_rows t ≡ grid_rows s
+pub alike_grid : (s t : List ℕ) → AreAlike 3 s t → grid_rules t ≡ grid_rules s
 unfolding grid_by
 alike_grid s t h =
     let source = alike_octets 3 6 6 s t h (omega arith) (omega arith) refl in
@@ -191,29 +191,29 @@ alike_grid s t h =
     λ i. grid_by (h.long i) (source i) (template_3 s t h i) (points_3 s t h i) (size_3 s t h i) (meaning i) (ni_3 s t h i) (nj_3 s t h i) (list_3 s t h i)
 
 -- under a profile
-opaque_grid_by : ℕ → ℕ → List Row
-opaque_grid_by l points = row (nat_lt l 14) 1 SectionLength l ∷ row (points == 0 || nat_lt MOST_POINTS points) 7 PointCount points ∷ []
+opaque_grid_by : ℕ → ℕ → List Rule
+opaque_grid_by l points = rule (nat_lt l 14) 1 SectionLength l ∷ rule (points == 0 || nat_lt MOST_POINTS points) 7 PointCount points ∷ []
 
-pub alike_grid_under : (profile : Profile) (s t : List ℕ) → AreAlike 3 s t → grid_rows_under profile t ≡ grid_rows_under profile s
+pub alike_grid_under : (profile : Profile) (s t : List ℕ) → AreAlike 3 s t → grid_rules_under profile t ≡ grid_rules_under profile s
 unfolding opaque_grid_by
 alike_grid_under Stated s t h = alike_grid s t h
 alike_grid_under Open s t h =
     let opaque : is_opaque_grid t ≡ is_opaque_grid s = ap (λ (l : Layout). l.is_opaque) h.layout in
-    let rows = alike_grid s t h in
-    λ i. cond (opaque i) (opaque_grid_by (h.long i) (points_3 s t h i)) (rows i)
+    let rules = alike_grid s t h in
+    λ i. cond (opaque i) (opaque_grid_by (h.long i) (points_3 s t h i)) (rules i)
 
 -- ---- Section 4
 
-product_by : ℕ → ℕ → ℕ → ℕ → ℕ → List Row
+product_by : ℕ → ℕ → ℕ → ℕ → ℕ → List Rule
 product_by l t n coordinates ranges =
-    row (nat_lt l 9) 1 SectionLength l
-    ∷ row (n == 4097) 1 FieldCount 4097
-    ∷ row (not (is_template product_templates t)) 8 ProductTemplate t
-    ∷ row (nat_lt l (least_length product_templates t)) 1 SectionLength l
-    ∷ row (nat_lt l (least_length product_templates t + 12 * ranges + 4 * coordinates)) 1 SectionLength l
+    rule (nat_lt l 9) 1 SectionLength l
+    ∷ rule (n == 4097) 1 FieldCount 4097
+    ∷ rule (not (is_template product_templates t)) 8 ProductTemplate t
+    ∷ rule (nat_lt l (least_length product_templates t)) 1 SectionLength l
+    ∷ rule (nat_lt l (least_length product_templates t + 12 * ranges + 4 * coordinates)) 1 SectionLength l
     ∷ []
 
-pub alike_product : (s t : List ℕ) (n : ℕ) → AreAlike 4 s t → product_rows t n ≡ product_rows s n
+pub alike_product : (s t : List ℕ) (n : ℕ) → AreAlike 4 s t → product_rules t n ≡ product_rules s n
 unfolding product_by
 alike_product s t n h =
     let template = alike_octets 4 8 9 s t h (omega arith) (omega arith) refl in
@@ -222,15 +222,15 @@ alike_product s t n h =
     λ i. product_by (h.long i) (template i) n (coordinates i) (ranges i)
 
 -- under a profile
-opaque_product_by : ℕ → ℕ → ℕ → List Row
+opaque_product_by : ℕ → ℕ → ℕ → List Rule
 opaque_product_by l t n =
-    row (nat_lt l 9) 1 SectionLength l ∷ row (n == 4097) 1 FieldCount 4097 ∷ row (nat_lt l (opaque_least t)) 1 SectionLength l ∷ []
+    rule (nat_lt l 9) 1 SectionLength l ∷ rule (n == 4097) 1 FieldCount 4097 ∷ rule (nat_lt l (opaque_least t)) 1 SectionLength l ∷ []
 
-pub alike_product_under : (profile : Profile) (s t : List ℕ) (n : ℕ) → AreAlike 4 s t → product_rows_under profile t n ≡ product_rows_under profile s n
+pub alike_product_under : (profile : Profile) (s t : List ℕ) (n : ℕ) → AreAlike 4 s t → product_rules_under profile t n ≡ product_rules_under profile s n
 unfolding opaque_product_by
 alike_product_under Stated s t n h = alike_product s t n h
 alike_product_under Open s t n h =
     let opaque : is_opaque_product t ≡ is_opaque_product s = ap (λ (l : Layout). l.is_opaque) h.layout in
     let template = alike_octets 4 8 9 s t h (omega arith) (omega arith) refl in
-    let rows = alike_product s t n h in
-    λ i. cond (opaque i) (opaque_product_by (h.long i) (template i) n) (rows i)
+    let rules = alike_product s t n h in
+    λ i. cond (opaque i) (opaque_product_by (h.long i) (template i) n) (rules i)

@@ -3,7 +3,8 @@ use Rattle.std.proofs.Common.{◌≡◌, ◌≢◌, ℕ, zero, suc, ◌+◌, ◌
 use Rattle.std.specs.Prelude.{All, AllPairs, option_map}
 use Rattle.std.specs.List.{range_with_len}
 use Rattle.std.proofs.lemmas.Bool.{cases_eq, eqb-false}
-use Rattle.grib_base.specs.Rows.{choose}
+use Rattle.grib_base.proofs.Firsts.{none_later}
+use Rattle.grib_base.specs.Rules.{choose}
 use Rattle.grib_base.specs.declared.profile.Profile.{Profile}
 use Rattle.grib2_message.specs.Fields.{field_count, field_sections, part_octets}
 use Rattle.grib2_message.specs.Message.{IsMessageUnder, FieldPassesUnder}
@@ -15,13 +16,14 @@ use Rattle.grib_keys.specs.declared.key.Key.TheVariants.{Discipline}
 use Rattle.grib_keys.specs.declared.condition.Change.{Change}
 use Rattle.grib_keys.specs.declared.condition.Value.{Value}
 use Rattle.grib_keys.specs.declared.table.Octets.{Octets}
-use Rattle.grib_keys.specs.Keys.{row_of}
+use Rattle.grib_keys.specs.Keys.{row_of, key_place}
 use Rattle.grib_select.specs.declared.changing.SetFault.{SetFault}
 use Rattle.grib_select.specs.declared.changing.SetFault.TheVariants.{KeyRange, KeyAbsent}
 use Rattle.grib_select.specs.Values.{key_section, layout_of, value_at, value_in, key_value_of}
-use Rattle.grib_select.specs.Changed.{new_number, with_changes, with_keys, first_without, change_fault, or_later, set_fault}
+use Rattle.grib_select.specs.Changed.{new_number, with_changes, with_keys, first_without, change_fault, set_fault}
 use Rattle.grib_select.proofs.Accepted.{field_up_to, sound_of, part_itself}
-use Rattle.grib_select.proofs.Changes.{CanBeSet, IsReady, ready, changes_alike, shape_tells}
+use Rattle.grib_select.proofs.Changes.{CanBeSet, IsReady, ready, changes_alike}
+use Rattle.grib_select.proofs.Places.{shape_tells}
 use Rattle.grib_select.proofs.Kept.{IsChanged, changed_number, changed_along}
 use Rattle.grib_select.proofs.NewValues.{NoneOf, StandOnce, EachChange, HasOctets, all_have, value_told}
 use Rattle.grib_select.proofs.Within.{part_keys, has_keys, head_within, and_first, and_second}
@@ -33,14 +35,10 @@ each_at P [] h k d low = absurd (omega arith)
 each_at P (change ∷ changes) h zero d low = h.0
 each_at P (change ∷ changes) h (suc k) d low = each_at P changes h.1 k d (omega arith)
 
-later_none : (o : Option SetFault) (later : Unit {0} → Option SetFault) → or_later o later ≡ None → (o ≡ None) × (later tt ≡ None)
-later_none (Some fault) later e = absurd (cc)
-later_none None later e = (refl, e)
-
 no_fault : (m : List ℕ) (changes : List Change) → set_fault m changes ≡ None → EachChange (λ c. change_fault m c ≡ None) changes
 no_fault m [] e = tt
 no_fault m (change ∷ changes) e =
-    let both = later_none (change_fault m change) (λ _. set_fault m changes) e in
+    let both = none_later (change_fault m change) (λ _. set_fault m changes) e in
     (both.0, no_fault m changes both.1)
 
 none_there : (b : Bool) (fault : SetFault) (rest : Option SetFault) → cond b (Some fault) rest ≡ None → (b ≡ false) × (rest ≡ None)
@@ -164,7 +162,7 @@ module _ (profile : Profile) (m : List ℕ) (changes : List Change) (h : IsMessa
       let t = with_changes changes n s in
       let c = in_section key in
       let alike = changes_alike changes n s c.ready set in
-      let at = placed key (value_at (row_of key).kind s) ((row_of key).place (layout_of n s)) (made.there i low high) in
+      let at = placed key (value_at (row_of key).kind s) (key_place key (layout_of n s)) (made.there i low high) in
       ap (value_in key) c.is
       ∙ value_told n s t change made.raw at.0 refl (alike.layout) at.1 (shape_tells key (layout_of n s) at.0 at.1) has made.number
 

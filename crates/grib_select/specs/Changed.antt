@@ -3,7 +3,7 @@
 use Rattle.std.specs.Prelude.{◌≡◌, ℕ, ◌+◌, ◌-◌, ◌*◌, ◌^◌, ◌≤◌, Bool, cond, ◌&&◌, ◌==◌, nat_lt, is_none, Option, Some, None, unwrap_or, List, [], ◌∷◌, ◌++◌, length, take, drop, map, ℤ, pos, negsuc}
 use Rattle.std.specs.List.{concat, list_any, range_with_len}
 use Rattle.std.specs.Option.{option_map_or}
-use Rattle.grib_base.specs.Rows.{choose}
+use Rattle.grib_base.specs.Rules.{choose, or_later}
 use Rattle.grib_bits.specs.Encoding.{octets_of}
 use Rattle.grib2_sections.specs.Frame.{section_number}
 use Rattle.grib2_sections.specs.Head.{end_mark}
@@ -13,7 +13,7 @@ use Rattle.grib_keys.specs.declared.condition.Value.TheVariants.{Number, Missing
 use Rattle.grib_keys.specs.declared.condition.Change.{Change}
 use Rattle.grib_keys.specs.declared.table.Octets.{Octets}
 use Rattle.grib_keys.specs.declared.table.Kind.{Kind}
-use Rattle.grib_keys.specs.Keys.{row_of, full_layout}
+use Rattle.grib_keys.specs.Keys.{row_of, key_place, full_layout}
 use Rattle.grib2_message.specs.Fields.{sections_of, field_count}
 use Rattle.grib_select.specs.Values.{octet_count, is_all_ones, layout_of, key_value_of}
 use Rattle.grib_select.specs.declared.changing.SetFault.{SetFault}
@@ -21,7 +21,7 @@ use Rattle.grib_select.specs.declared.changing.SetFault.TheVariants.{KeyRange, K
 
 -- how many octets the number of a key has: as many in each layout that has the key
 abbrev pub key_octets : Key → ℕ
-key_octets key = option_map_or octet_count ((row_of key).place (full_layout (row_of key).section)) 0
+key_octets key = option_map_or octet_count (key_place key (full_layout (row_of key).section)) 0
 
 -- the number of n octets without sign
 abbrev pub unsigned_number : ℕ → ℤ → Option ℕ
@@ -68,7 +68,7 @@ put_number change s (Some place) = put s place.first (octets_of (octet_count pla
 abbrev pub with_key : Change → ℕ → List ℕ → List ℕ
 with_key change number s =
     let row = row_of change.key in
-    choose (row.section == number) (λ _. put_number change s (row.place (layout_of number s))) (λ _. s)
+    choose (row.section == number) (λ _. put_number change s (key_place change.key (layout_of number s))) (λ _. s)
 
 abbrev pub with_changes : List Change → ℕ → List ℕ → List ℕ
 with_changes [] number s = s
@@ -117,11 +117,6 @@ abbrev pub change_fault : List ℕ → Change → Option SetFault
 change_fault message change =
     choose (is_none (new_number change)) (λ _. Some (KeyRange change.key))
     (λ _. first_without message change.key (range_with_len 1 (field_count message)))
-
--- the first fault, or what comes after
-abbrev pub or_later : Option SetFault → (Unit {0} → Option SetFault) → Option SetFault
-or_later (Some fault) later = Some fault
-or_later None later = later tt
 
 -- why the first change at fault cannot be made
 abbrev pub set_fault : List ℕ → List Change → Option SetFault

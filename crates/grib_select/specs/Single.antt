@@ -2,7 +2,7 @@
 -- octet, between Section 0 with the new total length in octets 9-16 and `7777`.
 use Rattle.std.specs.Prelude.{ℕ, ◌+◌, ◌==◌, List, ◌++◌, length, take, map}
 use Rattle.std.specs.List.{concat, range_with_len}
-use Rattle.grib_base.specs.Rows.{choose}
+use Rattle.grib_base.specs.Rules.{choose}
 use Rattle.grib_bits.specs.Encoding.{octets_of}
 use Rattle.grib2_sections.specs.Head.{end_mark}
 use Rattle.grib2_message.specs.Fields.{part_octets, field_bitmap}

@@ -4,7 +4,7 @@ use Rattle.std.specs.Prelude.{◌≡◌, ℕ, ◌+◌, ◌-◌, ◌^◌, ◌≤�
 use Rattle.std.specs.List.{list_all}
 use Rattle.std.specs.Option.{option_map_or}
 use Rattle.grib_bits.specs.Octets.{octets, signed_octets}
-use Rattle.grib_base.specs.Rows.{choose}
+use Rattle.grib_base.specs.Rules.{choose}
 use Rattle.grib_keys.specs.declared.key.Key.{Key}
 use Rattle.grib_keys.specs.declared.condition.Value.{Value}
 use Rattle.grib_keys.specs.declared.condition.Value.TheVariants.{Number, Missing}
@@ -12,7 +12,7 @@ use Rattle.grib_keys.specs.declared.wanted.Wanted.{Wanted}
 use Rattle.grib_keys.specs.declared.table.Layout.{Layout}
 use Rattle.grib_keys.specs.declared.table.Octets.{Octets}
 use Rattle.grib_keys.specs.declared.table.Kind.{Kind}
-use Rattle.grib_keys.specs.Keys.{row_of}
+use Rattle.grib_keys.specs.Keys.{row_of, key_place}
 use Rattle.grib_keys.specs.Wanted.{Holds, holds}
 use Rattle.grib_packing.specs.Entries.{is_opaque_packing}
 use Rattle.grib2_grids.specs.Opaque.{is_opaque_grid}
@@ -67,7 +67,7 @@ value_at kind s place =
 abbrev pub value_in : Key → List ℕ → Option Value
 value_in key s =
     let row = row_of key in
-    option_map (value_at row.kind s) (row.place (layout_of row.section s))
+    option_map (value_at row.kind s) (key_place key (layout_of row.section s))
 
 -- the value of a key of field i
 abbrev pub key_value_of : List ℕ → ℕ → Key → Option Value
@@ -95,6 +95,6 @@ pub record IsWithin (l : ℕ) (place : Octets) : Type 0 where
 -- each key that a section with this number has stands within the section, and so does the number of its time
 -- ranges
 pub record HasKeys (number : ℕ) (s : List ℕ) : Type 0 where
-  pub keys : (key : Key) (place : Octets) → (row_of key).section ≡ number → (row_of key).place (layout_of number s) ≡ Some place
+  pub keys : (key : Key) (place : Octets) → (row_of key).section ≡ number → key_place key (layout_of number s) ≡ Some place
       → place.last ≤ length s
   pub counted : number ≡ 4 → count_octet (template_of number s) ≤ length s

@@ -140,7 +140,7 @@ fn write_front(
     Ok(front)
 }
 
-/// The next section of a message of which no row refuses a section, or nothing at its end mark.
+/// The next section of a message of which no rule refuses a section, or nothing at its end mark.
 fn next_section<'a>(frame: &mut Frame, octets: &'a [u8]) -> Option<Section<'a>>
     requires { (fault : Fault) → step_from octets.now frame.old ≢ Fails fault }
     ensures { MatchOption result (step_from octets.now frame.old ≡ End)

@@ -1,7 +1,7 @@
 //! The values of keys.
 
 ghost use Rattle.std.specs.Prelude.{◌≡◌, ◌≢◌, ◌≤◌, length, IfSome};
-ghost use Rattle.grib_keys.specs.Keys.{row_of};
+ghost use Rattle.grib_keys.specs.Keys.{row_of, key_place};
 ghost use Rattle.grib2_message.specs.Fields.{field_count};
 ghost use Rattle.grib_select.specs.Changed.{key_octets};
 ghost use Rattle.grib_select.specs.Values as definitions;
@@ -105,7 +105,7 @@ fn layout_of(number: u8, section: &[u8]) -> Layout
 pub(crate) fn place_in(section: &[u8], key: Key) -> Option<Octets>
     requires { HasKeys (row_of key).section section.now }
     ensures place { result
-        ≡ (row_of key).place (definitions.layout_of (row_of key).section section.now) }
+        ≡ key_place key (definitions.layout_of (row_of key).section section.now) }
     ensures within { IfSome result (λ place. IsWithin (length section.now) place) }
     ensures size { IfSome result (λ place. octet_count place ≡ key_octets key) }
 {

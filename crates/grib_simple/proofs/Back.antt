@@ -7,12 +7,12 @@ use Rattle.grib_bits.specs.Bits.{bits}
 use Rattle.grib_bits.specs.Plain.{plain}
 use Rattle.grib_bits.proofs.OctetBits.{length-bits}
 use Rattle.grib_base.specs.declared.fault.Fault.{Fault}
-use Rattle.grib_base.specs.Rows.{first_fault}
+use Rattle.grib_base.specs.Rules.{first_fault}
 use Rattle.grib_packing.specs.declared.column.Column.{Column}
 use Rattle.grib_packing.specs.declared.column.Point.{Point}
 use Rattle.grib_packing.specs.declared.column.Point.TheVariants.{Scaled, Missing, Missing2}
 use Rattle.grib_packing.specs.Column.{points_with_mask}
-use Rattle.grib_packing.specs.Entries.{is_packing, packing_of, packing_rows, packing_fault, data_fault, entries_of, column_from}
+use Rattle.grib_packing.specs.Entries.{is_packing, packing_of, packing_rules, packing_fault, data_fault, entries_of, column_from}
 use Rattle.grib_packing.specs.Misfits.{ToSimple, first_misfit, is_missing2, is_scaled_outside}
 use Rattle.grib_packing.specs.Packed.{HasNumbers, IsSimple, fields, padded, present_bits, simple_numbers, simple_width}
 use Rattle.grib_packing.specs.Packing.{value_count, bit_width}
@@ -20,10 +20,10 @@ use Rattle.grib_packing.specs.Simple.{plain_bits}
 use Rattle.grib_packing.proofs.Fields.{length-fields, length-padded8, plain-padded}
 use Rattle.grib_packing.specs.Written.{MayBePacked}
 use Rattle.grib_packing.proofs.Packings.{data_fault-simple, entries_of-simple, packing_fault-simple}
-use Rattle.grib_simple.proofs.Accepted.{same_column}
+use Rattle.grib_simple_reading.proofs.Accepted.{same_column}
 use Rattle.grib_simple.proofs.Fitting.{few_numbers, none_fail, number_back, parts_false, width_few, width_fits}
 
--- ---- the rows of Section 5
+-- ---- the rules of Section 5
 
 none_of_six : (a b c d e f : Bool) (fa fb fc fd fe ff : Fault) → a ≡ false → b ≡ false → c ≡ false → d ≡ false → e ≡ false → f ≡ false
     → cond a (Some fa) (cond b (Some fb) (cond c (Some fc) (cond d (Some fd) (cond e (Some fe) (cond f (Some ff) None))))) ≡ None
@@ -32,11 +32,11 @@ none_of_six a b c d e f fa fb fc fd fe ff ea eb ec ed ee ef = rw (ea, eb, ec, ed
 one_passes : (a : Bool) (fault : Fault) → a ≡ false → cond a (Some fault) None ≡ None
 one_passes a fault e = rw e refl
 
--- a Section 5 of a template of the profile, as it is written, passes the rows of all templates
-pub shared_rows : (s : List ℕ) (column : Column) (points values template bit_width kind : ℕ) → HasNumbers s column values template bit_width kind
+-- a Section 5 of a template of the profile, as it is written, passes the rules of all templates
+pub shared_rules : (s : List ℕ) (column : Column) (points values template bit_width kind : ℕ) → HasNumbers s column values template bit_width kind
     → is_packing template ≡ true → (packing_of template).least ≤ length s → 11 ≤ length s → values ≤ points
-    → (ieee_exponent column.reference == 255) ≡ false → bit_width ≤ (packing_of template).most → first_fault (packing_rows s points) ≡ None
-shared_rows s column points values template width kind h known least long few finite narrow =
+    → (ieee_exponent column.reference == 255) ≡ false → bit_width ≤ (packing_of template).most → first_fault (packing_rules s points) ≡ None
+shared_rules s column points values template width kind h known least long few finite narrow =
     let t = h.template_stands in
     none_of_six _ _ _ _ _ _ _ _ _ _ _ _ (le-ltb (length s) 11 long) (ap (λ t. not (is_packing t)) t ∙ ap not known)
     (ap (λ t. nat_lt (length s) (packing_of t).least) t ∙ le-ltb (length s) (packing_of template).least least)
@@ -63,7 +63,7 @@ points_back points marks fits = points_again (2 ^ 48 - 1) points marks fits
 module _ (column : Column) (kind : ℕ) (s5 s6 s7 : List ℕ) (may : MayBePacked column) (none : first_misfit ToSimple column.points ≡ None) (h : IsSimple column kind s5 s6 s7) where
   pub accepted : packing_fault s5 (length column.points) ≡ None
   accepted =
-      let shared = shared_rows s5 column (length column.points) (length (simple_numbers column.points)) 0 (simple_width column.points) kind h.numbers
+      let shared = shared_rules s5 column (length column.points) (length (simple_numbers column.points)) 0 (simple_width column.points) kind h.numbers
       refl (omega (arith, h.as_long)) (omega (arith, h.as_long)) (few_numbers column.points) may.finite (width_few column.points none) in
       packing_fault-simple s5 (length column.points) shared h.numbers.template_stands
 

@@ -8,8 +8,8 @@ use Rattle.grib_bits.specs.Octets.{num_on}
 use Rattle.grib_bits.specs.Written.{padding}
 use Rattle.grib_bits.proofs.OctetBits.{length-bits}
 use Rattle.grib_base.specs.declared.fault.Fault.{Fault}
-use Rattle.grib_base.specs.Rows.{first_fault}
-use Rattle.grib_bitmap.specs.Mask.{bitmap_indicator, bitmap_rows, mask_of, own_mask, present_count}
+use Rattle.grib_base.specs.Rules.{first_fault}
+use Rattle.grib_bitmap.specs.Mask.{bitmap_indicator, bitmap_rules, mask_of, own_mask, present_count}
 use Rattle.grib_bitmap.proofs.Runs.{present_count-cons}
 use Rattle.grib_packing.specs.declared.column.Point.{Point}
 use Rattle.grib_packing.specs.declared.column.Point.TheVariants.{Scaled, Missing, Missing2}
@@ -59,7 +59,7 @@ module _ (s : List ℕ) (first : ℕ) (rest : List Bool) (h : HasContents 6 s (b
   octets_are =
       omega (arith, length-bits (drop 5 s), ap length (behind s first rest h small), length-append (bits (first ∷ [])) (padded rest), length-drop 5 s, h.itself.least)
 
--- ---- the rows
+-- ---- the rules
 
 none_of_six : (a b c d e f : Bool) (fa fb fc fd fe ff : Fault) → a ≡ false → b ≡ false → c ≡ false → d ≡ false → e ≡ false → f ≡ false
     → cond a (Some fa) (cond b (Some fb) (cond c (Some fc) (cond d (Some fd) (cond e (Some fe) (cond f (Some ff) None))))) ≡ None
@@ -70,7 +70,7 @@ module _ (points : List Point) (s : List ℕ) (values : ℕ) (earlier : Option (
   counted mask is = ap not (eq-eqb (present_count mask) values (ap present_count is ∙ count_present points none ∙ sym is_values))
 
   full : list_any is_missing points ≡ false → HasContents 6 s (bits_of 8 255 ++ [])
-      → (mask_of s (length points) earlier ≡ present_bits points) × (first_fault (bitmap_rows s (length points) values earlier) ≡ None)
+      → (mask_of s (length points) earlier ≡ present_bits points) × (first_fault (bitmap_rules s (length points) values earlier) ≡ None)
   full no_mark h =
       let is : bitmap_indicator s ≡ 255 = indicator_is s 255 [] h (omega arith) in
       let long = octets_are s 255 [] h (omega arith) in
@@ -81,7 +81,7 @@ module _ (points : List Point) (s : List ℕ) (values : ℕ) (earlier : Option (
       )
 
   own : HasContents 6 s (bits_of 8 0 ++ present_bits points)
-      → (mask_of s (length points) earlier ≡ present_bits points) × (first_fault (bitmap_rows s (length points) values earlier) ≡ None)
+      → (mask_of s (length points) earlier ≡ present_bits points) × (first_fault (bitmap_rules s (length points) values earlier) ≡ None)
   own h =
       let bs = present_bits points in
       let count : length bs ≡ length points = length-map points (λ point. not (is_missing point)) in
@@ -99,9 +99,9 @@ module _ (points : List Point) (s : List ℕ) (values : ℕ) (earlier : Option (
       )
 
 module _ (points : List Point) (s : List ℕ) (values : ℕ) (earlier : Option (List Bool)) (none : list_any is_missing2 points ≡ false) (is_values : values ≡ length (simple_numbers points)) (h : IsBitmap s points) where
-  pub bitmap_reads : (mask_of s (length points) earlier ≡ present_bits points) × (first_fault (bitmap_rows s (length points) values earlier) ≡ None)
+  pub bitmap_reads : (mask_of s (length points) earlier ≡ present_bits points) × (first_fault (bitmap_rules s (length points) values earlier) ≡ None)
   bitmap_reads = go (list_any is_missing points) refl h where
     go : (b : Bool) → list_any is_missing points ≡ b → HasContents 6 s (cond b (bits_of 8 0 ++ present_bits points) (bits_of 8 255))
-        → (mask_of s (length points) earlier ≡ present_bits points) × (first_fault (bitmap_rows s (length points) values earlier) ≡ None)
+        → (mask_of s (length points) earlier ≡ present_bits points) × (first_fault (bitmap_rules s (length points) values earlier) ≡ None)
     go true e h = own points s values earlier none is_values h
     go false e h = full points s values earlier none is_values e h

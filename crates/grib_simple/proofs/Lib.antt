@@ -1,7 +1,3 @@
-mod Lanes
-mod Unpacking
-pub mod Accepted
-pub mod Masked
 pub mod Seen
 mod PointByPoint
 pub mod Fitting
@@ -9,4 +5,3 @@ pub mod Bitmaps
 pub mod Back
 mod Same
 mod Times
-pub mod InPlace

@@ -2,7 +2,7 @@
 use Rattle.std.proofs.Common.{◌≡◌, ℕ, zero, suc, ◌+◌, ◌<◌, ◌≤◌, ◌||◌, ◌==◌, inl, inr, max, Bool, true, false, cond, Option, Some, None, ℤ, nat_abs, List, [], ◌∷◌, length, refl, sym, ap, ◌∙◌, arith, nat_lt, lt-ltb, le-ltb, eq-eqb, ne_eqb, drop, get_or, drop-cons, subst}
 use Rattle.std.specs.List.{position_or_len, list_any}
 use Rattle.std.proofs.lemmas.Bool.{cases_lt}
-use Rattle.grib_base.specs.Rows.{first_place}
+use Rattle.grib_base.specs.Rules.{first_place}
 use Rattle.grib_packing.specs.declared.column.Point.{Point}
 use Rattle.grib_packing.specs.declared.column.Point.TheVariants.{Scaled}
 use Rattle.grib_packing.specs.Misfits.{Misfit, SecondaryMissing, OutOfRange, first_of, misfit_at, plain_misfit, is_missing, is_missing2, is_scaled_outside}

@@ -1,7 +1,7 @@
 -- What is seen of the points of a column before they are written, for private functions.
 use Rattle.std.specs.Prelude.{◌≡◌, ℕ, ◌+◌, ◌==◌, Bool, true, false, cond, ◌||◌, List, length, replicate, max}
 use Rattle.std.specs.List.{list_any}
-use Rattle.grib_base.specs.Rows.{first_place}
+use Rattle.grib_base.specs.Rules.{first_place}
 use Rattle.grib_packing.specs.declared.column.Point.{Point}
 use Rattle.grib_packing.specs.Groupings.{greatest}
 use Rattle.grib_packing.specs.Misfits.{is_missing, is_missing2, is_scaled_outside}

@@ -2,12 +2,10 @@
 #![tactic(auto)]
 
 mod common;
-mod in_place;
 pub mod laws;
-mod numbers;
 mod packed;
+mod packing;
 mod repeated;
-mod simple;
 mod survey;
 mod writing;
 
@@ -16,9 +14,11 @@ pub use grib_packing::{
     Column, PackFault, Packed, Packing, Point, Simple, no_bitmap, octets_written, read_simple,
     room_for, write_head, write_numbers,
 };
-pub use in_place::{number_words, pack_numbers};
-pub use numbers::{masked_points, unpack_numbers, unpack_points};
-pub use packed::bitmap_octets;
-pub use simple::{SimplePacking, check_simple, is_too_short, unpack_simple};
+pub use grib_simple_reading::{
+    check_simple, is_too_short, masked_points, number_words, unpack_numbers, unpack_points,
+    unpack_simple,
+};
+pub use packed::{MOST_NUMBER, bitmap_octets};
+pub use packing::SimplePacking;
 pub use survey::Survey;
-pub use writing::bitmap_section;
+pub use writing::{bitmap_section, present_bit, representation_section};

@@ -10,7 +10,7 @@ use grib_packing::{Column, PackFault, Packed, bit_length, room_for};
 use std::alloc::Global;
 
 /// The greatest number of simple packing, which has 48 bits at most.
-const MOST: u64 = (1 << 48) - 1;
+pub const MOST_NUMBER: u64 = (1 << 48) - 1;
 
 /// Sections 5, 6 and 7 of a column: the numbers of the points that are not missing in the least bits,
 /// and a bitmap where a point is missing. `kind` is the type of the original values (code table 5.1).
@@ -26,7 +26,7 @@ pub fn pack_simply(alloc: Global, column: &Column, kind: u8) -> Result<Packed, P
     ensures { IsPacked ToSimple column.now kind result }
 {
     let points = column.points.as_slice();
-    let survey = Survey::of(points, MOST);
+    let survey = Survey::of(points, MOST_NUMBER);
     survey.fits()?;
     let bits = bit_length(survey.greatest);
     let octets = values_octets(survey.present, bits);

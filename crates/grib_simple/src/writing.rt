@@ -125,7 +125,7 @@ fn present_word(points: &[Point]) -> u64
 
 /// 1 for a point that is not missing, else 0.
 #[inline(always)]
-fn present_bit(point: Point) -> u64
+pub fn present_bit(point: Point) -> u64
     ensures bit { result ≡ digit (not (is_missing_point point)) }
     ensures small { result < 2 }
 {

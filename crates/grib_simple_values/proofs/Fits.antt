@@ -1,7 +1,7 @@
 -- Values whose numbers have a place in simple packing, and the points that a mask gives them to.
 use Rattle.std.proofs.Common.{◌≡◌, ℕ, ◌-◌, ◌^◌, ◌<◌, ◌||◌, Bool, true, false, cond, Some, None, pos, negsuc, nat_abs, nat_lt, List, [], ◌∷◌, length, map, refl, ap, ap₂, arith, le-ltb}
 use Rattle.std.specs.List.{list_any}
-use Rattle.grib_base.specs.Rows.{first_place}
+use Rattle.grib_base.specs.Rules.{first_place}
 use Rattle.grib_bitmap.specs.Mask.{present_count}
 use Rattle.grib_bitmap.proofs.Runs.{present_count-cons}
 use Rattle.grib_packing.specs.declared.column.Point.{Point}

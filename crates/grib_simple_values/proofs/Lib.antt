@@ -1,2 +1,3 @@
 mod Skipped
 pub mod Fits
+mod InPlace

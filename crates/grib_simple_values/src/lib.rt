@@ -3,6 +3,7 @@
 
 mod bitmap;
 mod bitmap_writer;
+mod in_place;
 mod marked;
 mod marking;
 mod numbers;
@@ -12,6 +13,7 @@ mod writing;
 
 pub use bitmap::mask_section;
 pub use bitmap_writer::BitmapWriter;
+pub use in_place::pack_numbers;
 pub use marked::MarkedWriter;
 pub use numbers::NumberWriter;
 pub use sections::pack_written;

@@ -1,9 +1,8 @@
 //! Bits of values that are written as they come.
 
-ghost use Rattle.std.specs.Prelude.{◌≡◌, ℕ, ◌<◌, ◌≤◌, ◌++◌, not, List, [], ◌∷◌, length, IfOk};
-ghost use Rattle.grib_bits.specs.Bits.{bits_of, digit};
+ghost use Rattle.std.specs.Prelude.{◌≤◌, ◌++◌, List, [], ◌∷◌, length, IfOk};
+ghost use Rattle.grib_bits.specs.Bits.{bits_of};
 ghost use Rattle.grib_packing.specs.declared.column.Point as column_point;
-ghost use Rattle.grib_packing.specs.Misfits.{is_missing};
 ghost use Rattle.grib_packing.specs.Packed.{HasContents, present_bits};
 ghost use Rattle.grib_simple_values.specs.Marked.{HasBitmap, BitmapKept};
 
@@ -11,6 +10,7 @@ use crate::BitmapWriter;
 use grib_base::List;
 use grib_bits::write_u8;
 use grib_packing::{Point, octets_written, room_for, write_head};
+use grib_simple::present_bit;
 use std::alloc::{AllocError, Global};
 
 impl BitmapWriter {
@@ -52,17 +52,5 @@ impl BitmapWriter {
         let mut out = self.out;
         out.align();
         octets_written(out)
-    }
-}
-
-/// 1 for a value that is not missing, else 0.
-#[inline(always)]
-fn present_bit(point: Point) -> u64
-    ensures bit { result ≡ digit (not (is_missing point)) }
-    ensures small { result < 2 }
-{
-    match point {
-        Point::Missing => 0,
-        _ => 1,
     }
 }

@@ -10,7 +10,8 @@ ghost use Rattle.grib_simple_values.specs.Written.{HasWritten};
 
 use crate::NumberWriter;
 use grib_base::List;
-use grib_packing::{Packed, Simple, octets_written, room_for, write_head, write_numbers};
+use grib_packing::{Packed, Simple, room_for};
+use grib_simple::representation_section;
 use std::alloc::{AllocError, Global};
 
 /// Sections 5, 6 and 7 of a field in simple packing, of which all numbers are written, as many as `values`. It keeps R, E and
@@ -33,7 +34,7 @@ pub fn pack_written(
         → HasWritten values (greatest_of (simple_numbers column.points)) (simple_numbers column.points) written
         → IsPacked ToSimple column simple.now.kind (Ok packed)) }
 {
-    let section5 = representation_section(alloc, simple, values, written.width as u8)?;
+    let section5 = representation_with(alloc, simple, values, written.width as u8)?;
     Ok(Packed {
         section5,
         section6,
@@ -43,7 +44,7 @@ pub fn pack_written(
 
 /// Section 5 of simple packing with other numbers of this many bits (WMO-No. 306, Volume I.2, FM 92 GRIB edition 2, data
 /// representation template 5.0).
-fn representation_section(
+pub(crate) fn representation_with(
     alloc: Global,
     simple: &Simple,
     values: u32,
@@ -54,8 +55,6 @@ fn representation_section(
         → HasNumbers section column values 0 bits simple.now.kind)) }
 {
     let column = simple.column(Vec::new(alloc));
-    let mut room = room_for(alloc, 21)?;
-    write_head(21, 5, &mut room);
-    write_numbers(&column, values, 0, bits, simple.kind, &mut room);
-    Ok(octets_written(room))
+    let room = room_for(alloc, 21)?;
+    Ok(representation_section(&column, values, bits, simple.kind, room))
 }

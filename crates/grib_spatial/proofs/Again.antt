@@ -3,7 +3,7 @@ use Rattle.std.proofs.Common.{◌≡◌, ℕ, zero, suc, ◌+◌, ◌-◌, ◌<�
 use Rattle.std.proofs.lemmas.Int.{ints}
 use Rattle.std.proofs.lemmas.List.FromFn.{get_or-map-range_with_len, length-map-range_with_len}
 use Rattle.grib_packing.specs.Differences.{Differenced, difference_at, differences, lesser, least, least_of, descriptors_of, code_at, difference_codes}
-use Rattle.grib_spatial.specs.Order.{IsOrder}
+use Rattle.grib_complex_reading.specs.Order.{IsOrder}
 
 -- the lesser of two is at most each
 lesser-left : (x y : ℤ) → lesser x y ≤ℤ x

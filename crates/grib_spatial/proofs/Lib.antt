@@ -3,8 +3,4 @@ pub mod Told
 pub mod Whole
 pub mod Least
 pub mod Again
-pub mod Reach
-pub mod Following
-pub mod Steadily
 pub mod Telling
-pub mod Repeated

@@ -4,7 +4,7 @@ use Rattle.std.specs.List.{range_with_len}
 use Rattle.std.proofs.lemmas.Bool.{cases_lt}
 use Rattle.std.proofs.lemmas.List.{get_or_past}
 use Rattle.grib_packing.specs.Differences.{difference_at, differences, least, descriptors_of, code_at}
-use Rattle.grib_spatial.specs.Order.{IsOrder}
+use Rattle.grib_complex_reading.specs.Order.{IsOrder}
 use Rattle.grib_spatial.specs.Trail.{IsToldBy}
 use Rattle.grib_spatial.specs.declared.trail.FirstAndLeast.{FirstAndLeast}
 

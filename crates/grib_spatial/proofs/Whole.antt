@@ -1,7 +1,7 @@
 -- Numbers that are undone one after another, as the front of all of them.
 use Rattle.std.proofs.Common.{◌≡◌, ℕ, suc, ◌+◌, ◌<◌, ◌≤◌, true, false, List, [], ◌∷◌, ◌++◌, length, get_or, drop, ℤ, ap, sym, ◌∙◌, subst, arith, append_assoc, drop-cons, length-append, append-nil}
 use Rattle.std.proofs.lemmas.List.{drop_all}
-use Rattle.grib_base.specs.Rows.{first_place}
+use Rattle.grib_base.specs.Rules.{first_place}
 use Rattle.grib_base.proofs.Places.{NoneOf, none-append, first_place-none, first_place-at}
 use Rattle.grib_packing.specs.Differences.{Descriptors, Last, next_number, last_after, undone_from, is_beyond}
 

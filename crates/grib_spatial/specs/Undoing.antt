@@ -1,6 +1,6 @@
 -- What is said of differences that are undone whole.
 use Rattle.std.specs.Prelude.{◌≡◌, ℕ, ◌≤◌, List, ℤ}
-use Rattle.grib_base.specs.Rows.{first_place}
+use Rattle.grib_base.specs.Rules.{first_place}
 use Rattle.grib_packing.specs.Differences.{Descriptors, is_beyond}
 use Rattle.grib_spatial.specs.declared.differences.Differences.{Differences}
 use Rattle.grib_spatial.specs.declared.undoing.UndoFault.{UndoFault}

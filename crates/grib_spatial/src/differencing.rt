@@ -3,7 +3,7 @@
 ghost use Rattle.std.specs.Prelude.{◌≡◌, ◌+◌, ◌-◌, ◌^◌, ◌<◌, ◌≤◌, pos, ◌+ℤ◌, ◌-ℤ◌, ◌*ℤ◌, nat_abs, length, All, IfOk};
 ghost use Rattle.grib_packing.specs.Differences.{difference_at, differences, lesser, least, descriptors_of, code_at, difference_codes};
 ghost use Rattle.grib_spatial.specs.Undoing.{read_with};
-ghost use Rattle.grib_spatial.specs.Order.{IsOrder};
+ghost use Rattle.grib_complex_reading.specs.Order.{IsOrder};
 
 use crate::differences::Differences;
 use grib_base::List;

@@ -2,7 +2,7 @@
 
 ghost use Rattle.std.specs.Prelude.{◌≡◌, ℕ, List, ℤ};
 ghost use Rattle.grib_packing.specs.Differences.{Differenced, Descriptors, undone, descriptors_of, difference_codes};
-ghost use Rattle.grib_spatial.specs.Order.{IsOrder};
+ghost use Rattle.grib_complex_reading.specs.Order.{IsOrder};
 
 /// Codes of order 1 or 2 tell one list of numbers, and it is the one that `undone` computes.
 pub fn codes_tell_one_list()

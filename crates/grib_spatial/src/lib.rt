@@ -4,15 +4,11 @@
 mod differences;
 mod differencing;
 pub mod laws;
-mod running;
-mod same;
-mod steady;
 mod trail;
 mod undoing;
 
 pub use differences::Differences;
 pub use differencing::difference;
-pub use running::{Running, ScaledRange};
-pub use steady::Steady;
+pub use grib_complex_reading::{Running, ScaledRange, Steady};
 pub use trail::{FirstAndLeast, Trail};
 pub use undoing::{UndoFault, undo};

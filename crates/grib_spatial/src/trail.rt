@@ -4,7 +4,7 @@ ghost use Rattle.std.specs.Prelude.{◌≡◌, ℕ, ◌+◌, ◌-◌, ◌^◌, �
 ghost use Rattle.std.specs.List.{range_with_len};
 ghost use Rattle.grib_packing.specs.Differences.{difference_at, differences, least, descriptors_of, code_at};
 ghost use Rattle.grib_spatial.specs.Undoing.{read_with};
-ghost use Rattle.grib_spatial.specs.Order.{IsOrder};
+ghost use Rattle.grib_complex_reading.specs.Order.{IsOrder};
 ghost use Rattle.grib_spatial.specs.Trail.{IsTrail, IsNear, IsToldBy};
 
 use crate::differences::Differences;

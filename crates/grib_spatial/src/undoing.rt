@@ -3,10 +3,10 @@
 ghost use Rattle.std.specs.Prelude.{◌≡◌, ◌^◌, ◌<◌, ◌≤◌, nat_abs, length, All, MatchResult};
 ghost use Rattle.grib_packing.specs.Differences.{undone};
 ghost use Rattle.grib_spatial.specs.Undoing.{read_with, first_beyond, Names};
-ghost use Rattle.grib_spatial.specs.Order.{IsOrder};
+ghost use Rattle.grib_complex_reading.specs.Order.{IsOrder};
 
 use crate::differences::Differences;
-use crate::running::Running;
+use grib_complex_reading::Running;
 use std::alloc::Global;
 use thiserror::Error;
 

@@ -5,7 +5,7 @@ use Rattle.std.specs.List.{list_any}
 use Rattle.grib_base.specs.declared.code.Code.{Code}
 use Rattle.grib_base.specs.declared.code.Code.TheVariants.{Present, Primary, Secondary}
 use Rattle.grib_packing.specs.Groupings.{width_of, greatest, smallest, present_codes, is_present, is_primary, is_secondary}
-use Rattle.grib_packing.proofs.Spans.{width_of-by}
+use Rattle.grib_codes.proofs.Spans.{width_of-by}
 use Rattle.grib_split.specs.Alike.{Alike, code_at}
 use Rattle.grib_split.specs.declared.slots.Slots.{Slots}
 use Rattle.grib_split.specs.Runs.{Run, Runs, Tells, Told, Wide, Holds, length_to, SameNumbers, SameMarks, SameWidths}

@@ -5,7 +5,7 @@ use Rattle.std.proofs.lemmas.List.{take-take, drop-take, length-take-le}
 use Rattle.std.proofs.lemmas.List.Elements.{All-take, All-drop}
 use Rattle.grib_base.specs.declared.code.Code.{Code}
 use Rattle.grib_packing.specs.Groupings.{IsGrouping, cost_of, width_of}
-use Rattle.grib_packing.specs.Span.{IsTold}
+use Rattle.grib_codes.specs.Span.{IsTold}
 use Rattle.grib_split.specs.Bound.{NoneTakesFewer}
 use Rattle.grib_split.proofs.Narrow.{narrower_front, narrower_back}
 use Rattle.grib_split.proofs.Optimal.{parts, joined, code_parts}

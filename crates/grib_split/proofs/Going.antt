@@ -6,8 +6,8 @@ use Rattle.std.proofs.Math.Nat.{mul-le-mul}
 use Rattle.std.proofs.lemmas.List.Elements.{All-take, All-drop}
 use Rattle.grib_base.specs.declared.code.Code.{Code}
 use Rattle.grib_packing.specs.Groupings.{IsGrouping, cost_of, width_of, greatest, present_codes}
-use Rattle.grib_packing.specs.Span.{IsBelow}
-use Rattle.grib_packing.proofs.Spans.{small_run}
+use Rattle.grib_codes.specs.Span.{IsBelow}
+use Rattle.grib_codes.proofs.Spans.{small_run}
 use Rattle.grib_split.specs.declared.choosing.Costs.{Costs}
 use Rattle.grib_split.specs.declared.behind.Behind.{Behind}
 use Rattle.grib_split.specs.declared.slots.Slots.{Slots}

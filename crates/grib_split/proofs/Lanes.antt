@@ -10,7 +10,7 @@ use Rattle.std.proofs.lemmas.Nat.Bits.{bit_at_cat_high}
 use Rattle.std.proofs.lemmas.Bool.{leb-false, eqb-true, eqb-false}
 use Rattle.grib_packing.specs.Groupings.{digits}
 use Rattle.grib_packing.proofs.Digits.{highest}
-use Rattle.grib_packing.proofs.Spans.{digits-is}
+use Rattle.grib_packing.proofs.Digits.{digits-is}
 use lib.Count.{count_leading_zeros}
 use mir.Syntax.{Width, w32}
 use mir.Val.{bits, hbits}

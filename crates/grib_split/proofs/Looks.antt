@@ -5,9 +5,9 @@ use Rattle.std.proofs.Math.Seq.{take-suc}
 use Rattle.std.proofs.lemmas.List.{take-take, drop-take, length-take-le, get_or-drop}
 use Rattle.grib_base.specs.declared.code.Code.{Code}
 use Rattle.grib_base.specs.declared.code.Code.TheVariants.{Present}
-use Rattle.grib_packing.specs.Span.{IsBelow, IsSpan}
-use Rattle.grib_packing.specs.declared.span.Span.{Span}
-use Rattle.grib_packing.proofs.Spans.{span-behind}
+use Rattle.grib_codes.specs.Span.{IsBelow, IsSpan}
+use Rattle.grib_codes.specs.declared.span.Span.{Span}
+use Rattle.grib_codes.proofs.Spans.{span-behind}
 use Rattle.grib_split.specs.Bound.{NoneTakesFewer}
 use Rattle.grib_split.proofs.Cut.{none_fewer_first}
 

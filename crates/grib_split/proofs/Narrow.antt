@@ -4,9 +4,9 @@ use Rattle.std.specs.List.{list_any}
 use Rattle.std.proofs.lemmas.List.Elements.{All-take, All-drop}
 use Rattle.grib_base.specs.declared.code.Code.{Code}
 use Rattle.grib_packing.specs.Groupings.{width_of, greatest, smallest, present_codes, is_present, is_primary, is_secondary}
-use Rattle.grib_packing.specs.Span.{IsTold}
-use Rattle.grib_packing.proofs.Bounds.{IsWithin, within_all, all_below, width-within, primary_reserved}
-use Rattle.grib_packing.proofs.Spans.{width_of-by, small_run}
+use Rattle.grib_codes.specs.Span.{IsTold}
+use Rattle.grib_codes.proofs.Bounds.{IsWithin, within_all, all_below, width-within, primary_reserved}
+use Rattle.grib_codes.proofs.Spans.{width_of-by, small_run}
 
 -- codes within the bounds of a run
 abbrev InBounds : List Code → Code → Type 0

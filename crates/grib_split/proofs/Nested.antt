@@ -5,8 +5,8 @@ use Rattle.std.proofs.lemmas.List.Elements.{All-head, All-tail, All-drop}
 use Rattle.grib_base.specs.declared.code.Code.{Code}
 use Rattle.grib_base.specs.declared.code.Code.TheVariants.{Present, Primary, Secondary}
 use Rattle.grib_packing.specs.Groupings.{greatest, smallest, present_codes, is_present}
-use Rattle.grib_packing.specs.Span.{IsBelow}
-use Rattle.grib_packing.proofs.Spans.{some_present, none_present}
+use Rattle.grib_codes.specs.Span.{IsBelow}
+use Rattle.grib_codes.proofs.Spans.{some_present, none_present}
 use Rattle.grib_split.specs.declared.slots.Slots.{Slots}
 use Rattle.grib_split.specs.Runs.{Waits, Told, Nested}
 use Rattle.grib_split.proofs.Widths.{with_number}

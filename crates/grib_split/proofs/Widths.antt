@@ -5,7 +5,8 @@ use Rattle.grib_base.specs.declared.code.Code.{Code}
 use Rattle.grib_base.specs.declared.code.Code.TheVariants.{Present, Primary, Secondary}
 use Rattle.grib_packing.specs.Groupings.{width_of, digits, greatest, smallest, present_codes, is_present, is_primary, is_secondary}
 use Rattle.std.proofs.Math.Nat.{pow-le-pow_right}
-use Rattle.grib_packing.proofs.Spans.{digits-is, smallest-more, smallest-one, some_present, none_present, smallest_at_most, width_by, width_of-by}
+use Rattle.grib_packing.proofs.Digits.{digits-is}
+use Rattle.grib_codes.proofs.Spans.{smallest-more, smallest-one, some_present, none_present, smallest_at_most, width_by, width_of-by}
 use Rattle.grib_packing.proofs.Digits.{digits-most, digits-mono}
 use Rattle.grib_split.specs.Runs.{Tells, Wide}
 

@@ -2,7 +2,7 @@
 use Rattle.std.specs.Prelude.{ℕ, ◌+◌, ◌≤◌, List, length, All}
 use Rattle.grib_base.specs.declared.code.Code.{Code}
 use Rattle.grib_packing.specs.Groupings.{length_bits}
-use Rattle.grib_packing.specs.Span.{IsBelow}
+use Rattle.grib_codes.specs.Span.{IsBelow}
 use Rattle.grib_split.specs.declared.choosing.Costs.{Costs}
 
 -- the bits that a group takes beside its numbers

@@ -2,12 +2,12 @@
 
 ghost use Rattle.std.specs.Prelude.{◌≡◌, ℕ, ◌+◌, ◌-◌, ◌<◌, ◌≤◌, List, length, take, drop, All, slice_index};
 ghost use Rattle.grib_packing.specs.Groupings.{IsGrouping, cost_of, width_of};
-ghost use Rattle.grib_packing.specs.Span.{IsTold};
+ghost use Rattle.grib_codes.specs.Span.{IsTold};
 ghost use Rattle.grib_split.specs.Bound.{NoneTakesFewer};
 ghost use Rattle.grib_split.specs.Costs.{CanSplit, header_of};
 
 use crate::choosing::Costs;
-use grib_packing::{Codes, Span, is_number};
+use grib_codes::{Codes, Span, is_number};
 
 /// How many codes are looked at by themselves.
 const BLOCK: usize = 8;

@@ -8,7 +8,7 @@ ghost use Rattle.grib_split.specs.Least.{AreHeads, IsLeast, Best, with_first};
 ghost use Rattle.grib_split.specs.Runs.{Runs, Waits, Afters, Falls, Soonest, OthersStay, IsLow, AreLengths, after_of, SameNumbers, SameMarks, SameWidths};
 
 use crate::slots::{Cheapest, Slots, lengths_round};
-use grib_packing::Codes;
+use grib_codes::Codes;
 
 /// The numbers that a grouping's cost rests on.
 #[derive(Clone, Copy, Debug, PartialEq, Eq)]

@@ -6,7 +6,7 @@ ghost use Rattle.grib_split.specs.Costs.{CanSplit, header_of};
 
 use crate::choosing::{Costs, least_choices};
 use crate::lengths::lengths_of;
-use grib_packing::Codes;
+use grib_codes::Codes;
 use std::alloc::{AllocError, Global};
 
 /// The lengths of the groups that are chosen for these codes: of the groupings into runs of 1 to 64 codes

@@ -4,7 +4,7 @@ ghost use Rattle.std.specs.Prelude.{◌≡◌, ℕ, true, false, ◌+◌, ◌-�
 ghost use Rattle.std.specs.Int.{bit_at};
 ghost use Rattle.grib_base.specs.declared.code.Code as code_io;
 ghost use Rattle.grib_packing.specs.Groupings.{digits};
-ghost use Rattle.grib_packing.specs.Span.{IsBelow};
+ghost use Rattle.grib_codes.specs.Span.{IsBelow};
 ghost use Rattle.grib_split.specs.Runs.{Tells, Told, Wide, WideAt, WideBut, Begun, AreLengths, price_at, Soonest, Falls, Nested, Settled, Covers, Covered, Numbered, IsNarrow, StayAt, after_of, cost_at, OthersStay, IsLow, IsNear, SameNumbers, SameMarks, SameWidths};
 
 use crate::behind::{Behind, first_of};

@@ -5,6 +5,7 @@ pub mod Fronts
 pub mod Hearers
 pub mod Windows
 pub mod Exits
+pub mod ByKind
 pub mod Heard
 pub mod Within
 pub mod Cutting

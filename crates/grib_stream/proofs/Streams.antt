@@ -7,7 +7,7 @@ use Rattle.std.proofs.lemmas.Slice.Eq.{bytes_eq-Decides}
 use Rattle.std.specs.Str.{bytes_eq}
 use Rattle.memchr.specs.Find.{FindsNeedle}
 use Rattle.memchr.proofs.lemmas.MatchLemmas.{OccursAt-part, OccursAt-from_part}
-use Rattle.grib_base.specs.Rows.{choose}
+use Rattle.grib_base.specs.Rules.{choose}
 use Rattle.grib2_sections.specs.Head.{indicator}
 use Rattle.grib_stream.specs.Searching.{Markless, Unmarked}
 use Rattle.grib_stream.specs.Stream.{begins, Judgement, Message, Found, message_after, Stream, followed_by, on_judgement, stream_from}

@@ -1,11 +1,9 @@
 -- A message that is judged as its octets come.
-use Rattle.std.specs.Prelude.{◌≡◌, ◌≢◌, ℕ, ◌+◌, ◌<◌, ◌≤◌, Bool, true, false, not, cond, nat_lt, List, [], ◌++◌, length, take, Some, None, Ok, Err}
+use Rattle.std.specs.Prelude.{◌≡◌, ◌≢◌, ℕ, ◌+◌, ◌<◌, ◌≤◌, Bool, true, false, not, List, [], ◌++◌, length, take, Some, None, Ok, Err}
 use Rattle.std.specs.declared.option.Option.{Option}
 use Rattle.std.specs.declared.result.Result.{Result}
 use Rattle.std.specs.Io.KnownBytes.{IsAtEnd}
 use Rattle.grib_base.specs.declared.fault.Fault.{Fault}
-use Rattle.grib_base.specs.declared.fault.Reason.TheVariants.{Truncated}
-use Rattle.grib_base.specs.Rows.{refusal}
 use Rattle.grib_io.specs.declared.outside.Stop.{Stop}
 use Rattle.grib_io.specs.declared.outside.Stop.TheVariants as stops
 use Rattle.grib_stream.specs.declared.hearing.HearStop.{HearStop}
@@ -76,7 +74,3 @@ Listens Is judge (Ok (heard.Ended fault)) a b first pending left left_now = Heed
 Listens Is judge (Ok (heard.Full fault)) a b first pending left left_now = Heeds a b first [] left left_now (IsCutOff judge fault) × (left_now ≡ 0)
 Listens Is judge (Err stops.Failed) a b first pending left left_now = Heeds a b first [] left left_now (IsNoMessage judge)
 Listens Is judge (Err stops.Memory) a b first pending left left_now = Heeds a b first [] left left_now (λ octets. Unit {0})
-
--- what octets are where nothing is heard: fewer than four are refused for their end, and any others are a message
-abbrev pub judged_deaf : List ℕ → Judgement
-judged_deaf octets = cond (nat_lt (length octets) 4) (Faulty (refusal (length octets + 1) Truncated (length octets))) (Message (length octets))

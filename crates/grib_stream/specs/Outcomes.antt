@@ -29,96 +29,91 @@ status_of ShelfFault = 7
 status_of Memory = 8
 status_of InputTooLong = 9
 
--- whether a device or a lack of memory ended the run, before or after its answer was found
-abbrev pub is_broken : Outcome → Bool
-is_broken Done = false
-is_broken (Passed refused kept) = false
-is_broken Differs = false
-is_broken (Usage word) = false
-is_broken (Refused refusal) = false
-is_broken (Kept kept) = false
-is_broken (TableRefused refusal) = false
-is_broken (SurfacesRefused refusal) = false
-is_broken (FileRefused refusal) = false
-is_broken ReadFault = true
-is_broken WriteFault = true
-is_broken ShelfFault = true
-is_broken Memory = true
-is_broken InputTooLong = false
-
--- whether writing the output or the notes broke, or memory ran out: then output and notes may wait for the rest
-abbrev pub is_cut_short : Outcome → Bool
-is_cut_short Done = false
-is_cut_short (Passed refused kept) = false
-is_cut_short Differs = false
-is_cut_short (Usage word) = false
-is_cut_short (Refused refusal) = false
-is_cut_short (Kept kept) = false
-is_cut_short (TableRefused refusal) = false
-is_cut_short (SurfacesRefused refusal) = false
-is_cut_short (FileRefused refusal) = false
-is_cut_short ReadFault = false
-is_cut_short WriteFault = true
-is_cut_short ShelfFault = false
-is_cut_short Memory = true
-is_cut_short InputTooLong = false
-
--- whether a run may end with it within what is done for a message: then some front of that was done. After
--- a fault of the shelf the output and the notes are still brought to their end.
-abbrev pub is_cut_within : Outcome → Bool
-is_cut_within Done = false
-is_cut_within (Passed refused kept) = false
-is_cut_within Differs = false
-is_cut_within (Usage word) = false
-is_cut_within (Refused refusal) = false
-is_cut_within (Kept kept) = false
-is_cut_within (TableRefused refusal) = false
-is_cut_within (SurfacesRefused refusal) = false
-is_cut_within (FileRefused refusal) = false
-is_cut_within ReadFault = false
-is_cut_within WriteFault = true
-is_cut_within ShelfFault = true
-is_cut_within Memory = true
-is_cut_within InputTooLong = false
-
 -- whether octets are refused only for their end, so that more of them may be accepted
 abbrev pub is_truncated : Reason → Bool
 is_truncated Truncated = true
 is_truncated _ = false
 
+-- What brought an outcome: the end of the input, where all was done; a message, and whether more octets may change the
+-- outcome; the arguments, a table or the file to compare with, before any input was read; the input; the shelf; the
+-- output, the notes or a lack of memory, which cut a run short; or an input of more octets than are taken.
+pub data Kind : Type 0 where
+  Whole : Kind
+  OfMessage : Bool → Kind
+  BeforeInput : Kind
+  OfInput : Kind
+  OfShelf : Kind
+  CutShort : Kind
+  Long : Kind
+
+abbrev pub kind_of : Outcome → Kind
+kind_of Done = Whole
+kind_of (Passed refused kept) = Whole
+kind_of Differs = Whole
+kind_of (Usage word) = BeforeInput
+kind_of (Refused refusal) = OfMessage (is_truncated refusal.fault.reason)
+kind_of (Kept kept) = OfMessage false
+kind_of (TableRefused refusal) = BeforeInput
+kind_of (SurfacesRefused refusal) = BeforeInput
+kind_of (FileRefused refusal) = BeforeInput
+kind_of ReadFault = OfInput
+kind_of WriteFault = CutShort
+kind_of ShelfFault = OfShelf
+kind_of Memory = CutShort
+kind_of InputTooLong = Long
+
+abbrev pub ends_whole : Kind → Bool
+ends_whole Whole = true
+ends_whole _ = false
+
+-- whether a run ends with it at the end of its input, where all was done
+abbrev pub is_whole : Outcome → Bool
+is_whole outcome = ends_whole (kind_of outcome)
+
+abbrev pub breaks : Kind → Bool
+breaks OfInput = true
+breaks OfShelf = true
+breaks CutShort = true
+breaks _ = false
+
+-- whether a device or a lack of memory ended the run, before or after its answer was found
+abbrev pub is_broken : Outcome → Bool
+is_broken outcome = breaks (kind_of outcome)
+
+abbrev pub cuts_short : Kind → Bool
+cuts_short CutShort = true
+cuts_short _ = false
+
+-- whether writing the output or the notes broke, or memory ran out: then output and notes may wait for the rest
+abbrev pub is_cut_short : Outcome → Bool
+is_cut_short outcome = cuts_short (kind_of outcome)
+
+abbrev pub cuts_within : Kind → Bool
+cuts_within OfShelf = true
+cuts_within CutShort = true
+cuts_within _ = false
+
+-- whether a run may end with it within what is done for a message: then some front of that was done. After
+-- a fault of the shelf the output and the notes are still brought to their end.
+abbrev pub is_cut_within : Outcome → Bool
+is_cut_within outcome = cuts_within (kind_of outcome)
+
+abbrev pub stays_open : Kind → Bool
+stays_open Whole = true
+stays_open (OfMessage truncated) = truncated
+stays_open _ = false
+
 -- whether more octets may change the outcome: the end of the input brought it
 abbrev pub is_open : Outcome → Bool
-is_open Done = true
-is_open (Passed refused kept) = true
-is_open Differs = true
-is_open (Usage word) = false
-is_open (Refused refusal) = is_truncated refusal.fault.reason
-is_open (Kept kept) = false
-is_open (TableRefused refusal) = false
-is_open (SurfacesRefused refusal) = false
-is_open (FileRefused refusal) = false
-is_open ReadFault = false
-is_open WriteFault = false
-is_open ShelfFault = false
-is_open Memory = false
-is_open InputTooLong = false
+is_open outcome = stays_open (kind_of outcome)
+
+abbrev pub ends_before : Kind → Bool
+ends_before (OfMessage truncated) = not truncated
+ends_before _ = false
 
 -- whether it is of a message, before which the run ends, whatever follows
 abbrev pub is_of_message : Outcome → Bool
-is_of_message Done = false
-is_of_message (Passed refused kept) = false
-is_of_message Differs = false
-is_of_message (Usage word) = false
-is_of_message (Refused refusal) = not (is_truncated refusal.fault.reason)
-is_of_message (Kept kept) = true
-is_of_message (TableRefused refusal) = false
-is_of_message (SurfacesRefused refusal) = false
-is_of_message (FileRefused refusal) = false
-is_of_message ReadFault = false
-is_of_message WriteFault = false
-is_of_message ShelfFault = false
-is_of_message Memory = false
-is_of_message InputTooLong = false
+is_of_message outcome = ends_before (kind_of outcome)
 
 -- the end of a run keeps the outcome, or writing the output or the notes broke, or memory ran out
 abbrev pub KeepsOrCuts : Outcome → Outcome → Type 0

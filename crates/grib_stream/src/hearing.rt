@@ -37,24 +37,3 @@ pub trait Hearer: Drop {
         ensures { (judge : List ℕ → Judgement) (octets : List ℕ) → heard judge self.now octets → 4 ≤ length octets
             → Cuts (judge octets) (length octets) result };
 }
-
-/// Stands where no message is judged incrementally. To it any octets are a message, once there are four.
-#[derive(Clone, Copy, Debug, PartialEq, Eq)]
-pub struct Deaf;
-
-impl Hearer for Deaf {
-    ghost use Rattle.std.specs.Prelude.{◌≡◌, true};
-    ghost use Rattle.grib_stream.specs.Hearing.{judged_deaf};
-
-    ghost hears = { λ first. true };
-
-    ghost heard = { λ judge deaf octets. judge ≡ judged_deaf };
-
-    fn push(&mut self, piece: &[u8]) -> Result<usize, HearStop> {
-        Ok(piece.len())
-    }
-
-    fn cut(&self) -> Option<Fault> {
-        None
-    }
-}

@@ -14,7 +14,7 @@ mod window;
 
 pub use gathering::{LIMIT, Rest, gather, probe, read_on};
 pub use grib_reasons::{Cause, Kept, Loss, TableRefusal};
-pub use hearing::{Deaf, HearStop, Hearer};
+pub use hearing::{HearStop, Hearer};
 pub use listening::answer_heard;
 pub use outcome::{FileRefusal, Outcome, is_truncated};
 pub use performer::{Extent, Performed, Performer, Whole};

@@ -2,8 +2,8 @@
 use Rattle.std.proofs.Common.{◌≡◌, ◌≢◌, ℕ, ◌+◌, ◌*◌, ◌≤◌, ◌==◌, Bool, true, false, count_by, List, [], ◌∷◌, ◌++◌, length, refl, ap, ap₂, ◌∙◌, sym, subst, arith, length-append, append-nil, eq-eqb, ne_eqb}
 use Rattle.std.specs.List.{concat}
 use Rattle.grib_bits.specs.Octets.{StatesItself}
-use Rattle.grib_base.specs.Rows.{first_fault, located}
-use Rattle.grib_bitmap.specs.Mask.{bitmap_rows, mask_of}
+use Rattle.grib_base.specs.Rules.{first_fault, located}
+use Rattle.grib_bitmap.specs.Mask.{bitmap_rules, mask_of}
 use Rattle.grib_packing.specs.declared.column.Column.{Column}
 use Rattle.grib_packing.specs.Packing.{value_count}
 use Rattle.grib_packing.specs.Entries.{packing_fault_under, is_stated_packing, data_fault, column_from}
@@ -63,14 +63,14 @@ module _ (ni nj : ℕ) (s5 s6 s7 : List ℕ) where
 -- ---- the sections follow one another
 
 is_identification : IsSection Stated [] 17 made_identification
-is_identification = record { length_stands = refl; least = omega arith; follows = refl; rows_hold = refl }
+is_identification = record { length_stands = refl; least = omega arith; follows = refl; rules_hold = refl }
 
 module _ (seed ni nj : ℕ) (may : MayBeMade seed ni nj) where
   is_grid : IsSection Stated (placed_at 17 made_identification ∷ []) 38 (made_grid ni nj)
-  is_grid = record { length_stands = refl; least = omega arith; follows = refl; rows_hold = ap (located 38) (grid_passes seed ni nj may) }
+  is_grid = record { length_stands = refl; least = omega arith; follows = refl; rules_hold = ap (located 38) (grid_passes seed ni nj may) }
 
 is_product : (ni nj : ℕ) → IsSection Stated (placed_at 38 (made_grid ni nj) ∷ placed_at 17 made_identification ∷ []) 110 made_product
-is_product ni nj = record { length_stands = refl; least = omega arith; follows = refl; rows_hold = refl }
+is_product ni nj = record { length_stands = refl; least = omega arith; follows = refl; rules_hold = refl }
 
 module _ (seed ni nj : ℕ) (column : Column) (s5 s6 s7 : List ℕ) (may : MayBeMade seed ni nj) (parts : Parts ni nj column s5 s6 s7) where
   -- the points in force
@@ -100,7 +100,7 @@ module _ (seed ni nj : ℕ) (column : Column) (s5 s6 s7 : List ℕ) (may : MayBe
     length_stands = parts.itself_5.length_stands;
     least = parts.itself_5.least;
     follows = ap (may_follow 4) parts.itself_5.number_stands;
-    rows_hold = fault_of Stated (before_5 ni nj s5 s6 s7) (placed_at 144 s5) 5 parts.itself_5.number_stands
+    rules_hold = fault_of Stated (before_5 ni nj s5 s6 s7) (placed_at 144 s5) 5 parts.itself_5.number_stands
         ∙ ap (λ (points : ℕ). located 144 (packing_fault_under Stated s5 points)) (points_5 seed ni nj column s5 s6 s7 may parts)
         ∙ ap (located 144) (accepted_stated Stated s5 (length column.points) parts.stated parts.back.representation);
   }
@@ -113,8 +113,8 @@ module _ (seed ni nj : ℕ) (column : Column) (s5 s6 s7 : List ℕ) (may : MayBe
         length_stands = parts.itself_6.length_stands;
         least = parts.itself_6.least;
         follows = ap₂ may_follow parts.itself_5.number_stands parts.itself_6.number_stands;
-        rows_hold = fault_of Stated before (placed_at place s6) 6 parts.itself_6.number_stands
-            ∙ ap₂ (λ (points : ℕ) (s : List ℕ). located place (first_fault (bitmap_rows s6 points (value_count s) earlier)))
+        rules_hold = fault_of Stated before (placed_at place s6) 6 parts.itself_6.number_stands
+            ∙ ap₂ (λ (points : ℕ) (s : List ℕ). located place (first_fault (bitmap_rules s6 points (value_count s) earlier)))
             (points_6 seed ni nj column s5 s6 s7 may parts) (representation_6 seed ni nj column s5 s6 s7 may parts)
             ∙ ap (located place) (parts.back.bitmap earlier);
       }
@@ -127,7 +127,7 @@ module _ (seed ni nj : ℕ) (column : Column) (s5 s6 s7 : List ℕ) (may : MayBe
         length_stands = parts.itself_7.length_stands;
         least = parts.itself_7.least;
         follows = ap₂ may_follow parts.itself_6.number_stands parts.itself_7.number_stands;
-        rows_hold = fault_of Stated before (placed_at place s7) 7 parts.itself_7.number_stands
+        rules_hold = fault_of Stated before (placed_at place s7) 7 parts.itself_7.number_stands
             ∙ ap (λ (s : List ℕ). located place (data_fault s s7)) (representation_7 seed ni nj column s5 s6 s7 may parts)
             ∙ ap (located place) parts.back.values;
       }

@@ -1,11 +1,11 @@
--- Section 3 of a made message passes its rows.
+-- Section 3 of a made message passes its rules.
 use Rattle.std.proofs.Common.{◌≡◌, ℕ, ◌*◌, ◌≤◌, ◌||◌, ◌==◌, false, not, nat_lt, refl, ap, ap₂, ◌∙◌, sym, arith, le-ltb, eq-eqb, ne_eqb}
 use Rattle.std.specs.Prelude.{None}
 use Rattle.std.proofs.lemmas.Nat.{mul-le}
-use Rattle.grib_base.specs.Rows.{first_fault}
+use Rattle.grib_base.specs.Rules.{first_fault}
 use Rattle.grib_base.specs.declared.limits.TheConstants.{MOST_POINTS}
 use Rattle.grib_bits.proofs.Encoding.{num_on-octets_of}
-use Rattle.grib2_grids.specs.Grid.{grid_rows, grid_points}
+use Rattle.grib2_grids.specs.Grid.{grid_rules, grid_points}
 use Rattle.grib2_grids.specs.Grid as grid
 use Rattle.grib2_message.proofs.Passed.{none_from_passes}
 use Rattle.grib_synthetic.specs.Made.{MayBeMade, made_grid}
@@ -43,8 +43,8 @@ module _ (seed ni nj : ℕ) (may : MayBeMade seed ni nj) where
       ap not (eq-eqb (grid.ni s * grid.nj s) (grid_points s) product)
 
 module _ (seed ni nj : ℕ) (may : MayBeMade seed ni nj) where
-  pub grid_passes : first_fault (grid_rows (made_grid ni nj)) ≡ None
-  grid_passes = none_from_passes (grid_rows (made_grid ni nj)) (
+  pub grid_passes : first_fault (grid_rules (made_grid ni nj)) ≡ None
+  grid_passes = none_from_passes (grid_rules (made_grid ni nj)) (
     refl,
     (
       refl,

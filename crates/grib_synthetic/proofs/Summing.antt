@@ -1,5 +1,5 @@
 -- Lemmas on what is summed up of points.
-use Rattle.std.proofs.Common.{◌≡◌, ℕ, ◌+◌, ◌||◌, Bool, true, false, List, [], ◌∷◌, ◌++◌, length, map, sum, ℤ, nat_abs, ap, ◌∙◌, arith, ◌⊎◌, inl, inr}
+use Rattle.std.proofs.Common.{◌≡◌, ℕ, ◌+◌, List, [], ◌∷◌, ◌++◌, length, map, sum, ℤ, nat_abs, ap, ◌∙◌, arith, ◌⊎◌, inl, inr}
 use Rattle.std.proofs.lemmas.List.{length-append, map-append}
 use Rattle.std.proofs.lemmas.List.Sums.{sum_by-append}
 use Rattle.std.proofs.lemmas.List.Elements.{filter_map-append}
@@ -28,10 +28,6 @@ sums-more before now points point so_far present summed = record {
   present_stands = omega (arith, so_far.present_stands, present, count-more points point);
   sum_stands = omega (arith, so_far.sum_stands, summed, sum-more points point);
 }
-
-second_false : (a b : Bool) → (a || b) ≡ false → b ≡ false
-second_false true b e = absurd (cc)
-second_false false b e = e
 
 -- a point with a number, and one without
 pub one_number : (point : Point) (x : ℤ) → point ≡ Scaled x → (present_count (point ∷ []) ≡ 1) × (present_sum (point ∷ []) ≡ nat_abs x)

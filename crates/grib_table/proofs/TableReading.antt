@@ -5,19 +5,23 @@ use Rattle.std.specs.Prelude.{IsErrAnd}
 use Rattle.std.proofs.lemmas.Bool.{cases_lt}
 use Rattle.std.proofs.lemmas.List.{take_all}
 use Rattle.grib_reasons.specs.declared.table.TableRefusal.TheVariants as refusals
-use Rattle.grib_io.specs.Shelves.{Held}
+use Rattle.grib_io.specs.Shelves.{Held, Stood, Tells}
+use Rattle.grib_io.specs.Reading.{IsFirst, StopsAt}
+use Rattle.grib_io.specs.declared.reading.ReadStop.{ReadStop}
+use Rattle.grib_io.specs.declared.reading.ReadStop.TheVariants as reads
 use Rattle.grib_params.specs.declared.fault.TableFault.{TableFault}
 use Rattle.grib_params.specs.declared.fault.TableFault.TheVariants as faults
 use Rattle.grib_params.specs.Fields.{records_of}
 use Rattle.grib_params.specs.Table as verdicts
-use Rattle.grib_params.specs.Table.{Verdict, table_verdict, verdict_from, IsFault}
+use Rattle.grib_params.specs.Table.{Entries, Verdict, table_verdict, verdict_from, IsFault}
 use Rattle.grib_params.specs.Surfaces as surfaces
-use Rattle.grib_params.specs.Surfaces.{SurfaceVerdict, surface_verdict, surface_verdict_from, IsSurfaceFault}
+use Rattle.grib_params.specs.Surfaces.{SurfaceEntries, SurfaceVerdict, surface_verdict, surface_verdict_from, IsSurfaceFault}
 use Rattle.grib_params.specs.declared.table.TheConstants.{MOST_OCTETS}
 use Rattle.grib_names.specs.Table as names
-use Rattle.grib_names.specs.Table.{NameVerdict, names_verdict, names_verdict_from, IsNamesFault}
-use Rattle.grib_table.specs.Fronts.{Tells, IsTaken, NoneRead}
-use Rattle.grib_table.specs.Tabled.{Tabled, Good, Refused, tabled, tabled_by, surfaces_by, names_by, parameters_of, surfaces_of, names_of, Stood, ReadsTable, stop_of_fault}
+use Rattle.grib_names.specs.Table.{NameEntries, NameVerdict, names_verdict, names_verdict_from, IsNamesFault}
+use Rattle.grib_table.specs.Taken.{IsSaid, Takes}
+use Rattle.grib_table.specs.Together.{ReadsWhere}
+use Rattle.grib_table.specs.Tabled.{Tabled, Good, Refused, tabled, tabled_by, surfaces_by, names_by, parameters_of, surfaces_of, names_of, ReadsTable, stop_of_read, stop_of_fault}
 use Rattle.grib_table.specs.declared.stop.TableStop.{TableStop}
 use Rattle.grib_table.specs.declared.stop.TableStop.TheVariants.{Refused as Refuses, ShelfFault, Memory}
 use Rattle.grib_table.specs.declared.reading.TheConstants.{MOST}
@@ -29,19 +33,19 @@ IsNone found (faults.Row number) = found ≡ Refused (refusals.Row number)
 IsNone found (faults.Duplicate number) = found ≡ Refused (refusals.Duplicate number)
 IsNone found faults.Memory = Unit {0}
 
-pub none_by : (verdict : Verdict) (fault : TableFault) → IsFault verdict fault → IsNone (tabled_by verdict) fault
+none_by : (verdict : Verdict) (fault : TableFault) → IsFault verdict fault → IsNone (tabled_by verdict) fault
 none_by verdict faults.TooLarge is = ap tabled_by is
 none_by verdict (faults.Row number) is = ap tabled_by is
 none_by verdict (faults.Duplicate number) is = ap tabled_by is
 none_by verdict faults.Memory is = tt
 
-pub no_surfaces_by : (verdict : SurfaceVerdict) (fault : TableFault) → IsSurfaceFault verdict fault → IsNone (surfaces_by verdict) fault
+no_surfaces_by : (verdict : SurfaceVerdict) (fault : TableFault) → IsSurfaceFault verdict fault → IsNone (surfaces_by verdict) fault
 no_surfaces_by verdict faults.TooLarge is = ap surfaces_by is
 no_surfaces_by verdict (faults.Row number) is = ap surfaces_by is
 no_surfaces_by verdict (faults.Duplicate number) is = ap surfaces_by is
 no_surfaces_by verdict faults.Memory is = tt
 
-pub no_names_by : (verdict : NameVerdict) (fault : TableFault) → IsNamesFault verdict fault → IsNone (names_by verdict) fault
+no_names_by : (verdict : NameVerdict) (fault : TableFault) → IsNamesFault verdict fault → IsNone (names_by verdict) fault
 no_names_by verdict faults.TooLarge is = ap names_by is
 no_names_by verdict (faults.Row number) is = ap names_by is
 no_names_by verdict (faults.Duplicate number) is = ap names_by is
@@ -51,68 +55,92 @@ no_names_by verdict faults.Memory is = tt
 abbrev pub IsFew : {T : Type 0} → (List ℕ → Tabled T) → Type 0
 IsFew table_of = (text : List ℕ) → MOST_OCTETS < length text → table_of text ≡ Refused refusals.TooLarge
 
-pub few_parameters : IsFew parameters_of
+few_parameters : IsFew parameters_of
 few_parameters text long = ap (λ b. tabled_by (if b then verdicts.TooLarge else verdict_from 0 [] (records_of text))) (lt-ltb MOST_OCTETS (length text) long)
 
-pub few_surfaces : IsFew surfaces_of
+few_surfaces : IsFew surfaces_of
 few_surfaces text long =
     ap (λ b. surfaces_by (if b then surfaces.TooLarge else surface_verdict_from 0 [] (records_of text))) (lt-ltb MOST_OCTETS (length text) long)
 
-pub few_names : IsFew names_of
+few_names : IsFew names_of
 few_names text long =
     ap (λ b. names_by (if b then names.TooLarge else names_verdict_from 0 [] (records_of text))) (lt-ltb MOST_OCTETS (length text) long)
+
+module _ {T V : Type 0} (none : T) (good : T → V) (IsFault : V → TableFault → Type 0) (verdict : List ℕ → V) where
+  -- nothing was read
+  stopped : (shelf : Option Held) (name : List ℕ) (stop : ReadStop) → Tells shelf name (StopsAt stop) → Takes none good IsFault verdict (Err (stop_of_read stop)) shelf (Some name)
+  stopped shelf name reads.Absent told = told
+  stopped shelf name reads.Failed told = tt
+  stopped shelf name reads.Memory told = tt
+
+  pub by_stop : (result : Result T TableStop) (shelf : Option Held) (name : List ℕ) (stop : ReadStop) → Tells shelf name (StopsAt stop)
+      → IsErrAnd result (λ e. e ≡ stop_of_read stop) → Takes none good IsFault verdict result shelf (Some name)
+  by_stop (Ok table) shelf name stop told err = absurd err
+  by_stop (Err e) shelf name stop told err = rw err (stopped shelf name stop told)
+
+  -- what was read is no table
+  refused : (shelf : Option Held) (name octets : List ℕ) (fault : TableFault) → Tells shelf name (IsFirst (Some MOST) octets) → IsFault (verdict octets) fault
+      → Takes none good IsFault verdict (Err (stop_of_fault fault)) shelf (Some name)
+  refused shelf name octets faults.TooLarge told is = (octets, told, is)
+  refused shelf name octets (faults.Row number) told is = (octets, told, is)
+  refused shelf name octets (faults.Duplicate number) told is = (octets, told, is)
+  refused shelf name octets faults.Memory told is = tt
+
+  pub by_fault : (result : Result T TableStop) (shelf : Option Held) (name octets : List ℕ) (fault : TableFault) → Tells shelf name (IsFirst (Some MOST) octets)
+      → IsFault (verdict octets) fault → IsErrAnd result (λ stop. stop ≡ stop_of_fault fault) → Takes none good IsFault verdict result shelf (Some name)
+  by_fault (Ok table) shelf name octets fault told is err = absurd err
+  by_fault (Err stop) shelf name octets fault told is err = rw err (refused shelf name octets fault told is)
 
 absent_table : {T : Type 0} (table_of : List ℕ → Tabled T) (shelf : Option Held) (name : List ℕ) → Tells shelf name (λ text. text ≡ None)
     → (text : Option (List ℕ)) × Stood shelf name text × (tabled table_of text ≡ Refused refusals.Absent)
 absent_table table_of None name told = (None, tt, refl)
 absent_table table_of (Some held) name told = (None, sym told, refl)
 
-none_read : {T : Type 0} (table_of : List ℕ → Tabled T) (shelf : Option Held) (name : List ℕ) (stop : TableStop) → NoneRead shelf name stop → ReadsTable table_of (Err stop) shelf name
-none_read table_of shelf name (Refuses refusal) none =
-    ⊎_elim
-    (λ is. (let same : refusal ≡ refusals.Absent = cc in rw same (absent_table table_of shelf name (none.absent is))))
-    (λ other. ⊎_elim (λ is. (let no : ⊥ = cc in absurd no)) (λ is. (let no : ⊥ = cc in absurd no)) other)
-    none.one_of
-none_read table_of shelf name ShelfFault none = tt
-none_read table_of shelf name Memory none = tt
-
-pub by_stop : {T : Type 0} (table_of : List ℕ → Tabled T) (result : Result T TableStop) (shelf : Option Held) (name : List ℕ) (stop : TableStop) → NoneRead shelf name stop
-    → IsErrAnd result (λ e. e ≡ stop) → ReadsTable table_of result shelf name
-by_stop table_of (Ok table) shelf name stop none err = absurd err
-by_stop table_of (Err e) shelf name stop none err = rw err (none_read table_of shelf name stop none)
-
-module _ {T : Type 0} (table_of : List ℕ → Tabled T) (few : IsFew table_of) where
+module _ {X V : Type 0} (table_of : List ℕ → Tabled (List X)) (few : IsFew table_of) (good : List X → V) (IsFault : V → TableFault → Type 0) (verdict : List ℕ → V) (is_table : (text : List ℕ) (table : List X) → verdict text ≡ good table → table_of text ≡ Good table) (is_none : (text : List ℕ) (fault : TableFault) → IsFault (verdict text) fault → IsNone (table_of text) fault) where
   -- one octet more than a table may have decides like the whole text
-  same_table : (n : ℕ) (text : List ℕ) → n ≡ MOST → table_of (take n text) ≡ table_of text
-  same_table n text most =
+  same_table : (text : List ℕ) → table_of (take MOST text) ≡ table_of text
+  same_table text =
       ⊎_elim
-      (λ (short : length text < n). ap table_of (take_all n text (omega arith)))
-      (λ (long : n ≤ length text).
-      few (take n text) (omega (arith, length-take-le n text long)) ∙ sym (few text (omega arith)))
-      (cases_lt (length text) n)
+      (λ (short : length text < MOST). ap table_of (take_all MOST text (omega arith)))
+      (λ (long : MOST ≤ length text).
+      few (take MOST text) (omega (arith, length-take-le MOST text long)) ∙ sym (few text (omega arith)))
+      (cases_lt (length text) MOST)
 
   -- what was read is what stands there, as far as tables go
-  taken_table : (n : ℕ) (piece : List ℕ) (text : Option (List ℕ)) → n ≡ MOST → IsTaken n piece text → tabled table_of text ≡ table_of piece
-  taken_table n piece None most is = absurd is
-  taken_table n piece (Some octets) most is = sym (ap table_of is ∙ same_table n octets most)
+  taken_table : (octets : List ℕ) (text : Option (List ℕ)) → IsFirst (Some MOST) octets text → tabled table_of text ≡ table_of octets
+  taken_table octets None is = absurd is
+  taken_table octets (Some all) is = sym (ap table_of is ∙ same_table all)
 
-  told_table : (shelf : Option Held) (name : List ℕ) (n : ℕ) (piece : List ℕ) (what : Tabled T) → n ≡ MOST → Tells shelf name (IsTaken n piece) → table_of piece ≡ what
+  told_table : (shelf : Option Held) (name octets : List ℕ) (what : Tabled (List X)) → Tells shelf name (IsFirst (Some MOST) octets) → table_of octets ≡ what
       → (text : Option (List ℕ)) × Stood shelf name text × (tabled table_of text ≡ what)
-  told_table None name n piece what most told is = (Some piece, tt, is)
-  told_table (Some held) name n piece what most told is = (held name, refl, taken_table n piece (held name) most told ∙ is)
+  told_table None name octets what told is = (Some octets, tt, is)
+  told_table (Some held) name octets what told is = (held name, refl, taken_table octets (held name) told ∙ is)
 
-  pub good_table : (shelf : Option Held) (name : List ℕ) (n : ℕ) (piece : List ℕ) (table : T) → n ≡ MOST → Tells shelf name (IsTaken n piece) → table_of piece ≡ Good table
-      → ReadsTable table_of (Ok table) shelf name
-  good_table shelf name n piece table most told is = told_table shelf name n piece (Good table) most told is
+  pub stands_where : (result : Result (List X) TableStop) (shelf : Option Held) (name : Option (List ℕ)) → Takes [] good IsFault verdict result shelf name → ReadsWhere table_of result shelf name
+  stands_where result shelf None is = is
+  stands_where (Ok table) shelf (Some name) (octets, told, is) = told_table shelf name octets (Good table) told (is_table octets table is)
+  stands_where (Err (Refuses refusals.Absent)) shelf (Some name) told = absent_table table_of shelf name told
+  stands_where (Err (Refuses refusals.TooLarge)) shelf (Some name) (octets, told, is) = told_table shelf name octets (Refused refusals.TooLarge) told (is_none octets faults.TooLarge is)
+  stands_where (Err (Refuses (refusals.Row number))) shelf (Some name) (octets, told, is) = told_table shelf name octets (Refused (refusals.Row number)) told (is_none octets (faults.Row number) is)
+  stands_where (Err (Refuses (refusals.Duplicate number))) shelf (Some name) (octets, told, is) =
+      told_table shelf name octets (Refused (refusals.Duplicate number)) told (is_none octets (faults.Duplicate number) is)
+  stands_where (Err ShelfFault) shelf (Some name) told = tt
+  stands_where (Err Memory) shelf (Some name) told = tt
 
-  fault_table : (shelf : Option Held) (name : List ℕ) (n : ℕ) (piece : List ℕ) (fault : TableFault) → n ≡ MOST → Tells shelf name (IsTaken n piece) → IsNone (table_of piece) fault
-      → ReadsTable table_of (Err (stop_of_fault fault)) shelf name
-  fault_table shelf name n piece faults.TooLarge most told is = told_table shelf name n piece (Refused refusals.TooLarge) most told is
-  fault_table shelf name n piece (faults.Row number) most told is = told_table shelf name n piece (Refused (refusals.Row number)) most told is
-  fault_table shelf name n piece (faults.Duplicate number) most told is = told_table shelf name n piece (Refused (refusals.Duplicate number)) most told is
-  fault_table shelf name n piece faults.Memory most told is = tt
+-- ---- of each table
 
-  pub by_fault : (result : Result T TableStop) (shelf : Option Held) (name : List ℕ) (n : ℕ) (piece : List ℕ) (fault : TableFault) → n ≡ MOST → Tells shelf name (IsTaken n piece)
-      → IsNone (table_of piece) fault → IsErrAnd result (λ stop. stop ≡ stop_of_fault fault) → ReadsTable table_of result shelf name
-  by_fault (Ok table) shelf name n piece fault most told is err = absurd err
-  by_fault (Err stop) shelf name n piece fault most told is err = rw err (fault_table shelf name n piece fault most told is)
+pub parameters_stand : (result : Result Entries TableStop) (shelf : Option Held) (name : Option (List ℕ)) → Takes [] verdicts.Good IsFault table_verdict result shelf name
+    → ReadsWhere parameters_of result shelf name
+parameters_stand result shelf name took =
+    stands_where parameters_of few_parameters verdicts.Good IsFault table_verdict (λ text table is. ap tabled_by is) (λ text fault is. none_by (table_verdict text) fault is) result shelf name took
+
+pub surfaces_stand : (result : Result SurfaceEntries TableStop) (shelf : Option Held) (name : Option (List ℕ)) → Takes [] surfaces.Good IsSurfaceFault surface_verdict result shelf name
+    → ReadsWhere surfaces_of result shelf name
+surfaces_stand result shelf name took =
+    stands_where surfaces_of few_surfaces surfaces.Good IsSurfaceFault surface_verdict (λ text table is. ap surfaces_by is) (λ text fault is. no_surfaces_by (surface_verdict text) fault is) result shelf name
+    took
+
+pub names_stand : (result : Result NameEntries TableStop) (shelf : Option Held) (name : Option (List ℕ)) → Takes [] names.Good IsNamesFault names_verdict result shelf name
+    → ReadsWhere names_of result shelf name
+names_stand result shelf name took =
+    stands_where names_of few_names names.Good IsNamesFault names_verdict (λ text table is. ap names_by is) (λ text fault is. no_names_by (names_verdict text) fault is) result shelf name took

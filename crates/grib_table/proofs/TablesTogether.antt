@@ -13,7 +13,7 @@ use Rattle.grib_table.specs.declared.stop.TableStop.TheVariants as stops
 use Rattle.grib_table.specs.declared.stop.TablesStop.{TablesStop}
 use Rattle.grib_table.specs.Tabled.{Tabled, Good, Refused, parameters_of, surfaces_of, names_of, tabled}
 use Rattle.grib_table.specs.Together.{Asked, together_by, tabled_where, StoodWhere, StandsAs, ReadsTables, ReadsWhere, table_stop, surfaces_stop}
-use Rattle.grib_table.proofs.Fronts.{stays_along}
+use Rattle.grib_io.proofs.Under.{stays_along}
 
 -- ---- one table
 

@@ -1,3 +1,3 @@
 pub mod Tabled
-pub mod Fronts
+pub mod Taken
 pub mod Together

@@ -3,10 +3,10 @@ use Rattle.std.specs.Prelude.{◌≡◌, ℕ, List, Option, Some, None, Ok, Err}
 use Rattle.std.specs.declared.result.Result.{Result}
 use Rattle.grib_reasons.specs.declared.table.TableRefusal.{TableRefusal}
 use Rattle.grib_reasons.specs.declared.table.TableRefusal.TheVariants as refusals
-use Rattle.grib_io.specs.declared.outside.ShelfStop.{ShelfStop}
-use Rattle.grib_io.specs.declared.outside.ShelfStop.TheVariants.{Absent, Failed}
+use Rattle.grib_io.specs.declared.reading.ReadStop.{ReadStop}
+use Rattle.grib_io.specs.declared.reading.ReadStop.TheVariants as reads
 use Rattle.grib_io.specs.Outside.{Counted}
-use Rattle.grib_io.specs.Shelves.{Held}
+use Rattle.grib_io.specs.Shelves.{Held, Stood}
 use Rattle.grib_params.specs.declared.fault.TableFault.{TableFault}
 use Rattle.grib_params.specs.declared.fault.TableFault.TheVariants as faults
 use Rattle.grib_params.specs.Table as verdicts
@@ -57,11 +57,6 @@ abbrev pub tabled : {T : Type 0} → (List ℕ → Tabled T) → Option (List �
 tabled table_of None = Refused refusals.Absent
 tabled table_of (Some text) = table_of text
 
--- what stands under the name, where the shelf tells it
-abbrev pub Stood : Option Held → List ℕ → Option (List ℕ) → Type 0
-Stood None name text = Unit {0}
-Stood (Some held) name text = text ≡ held name
-
 -- What was read as the table stands under the name, or was refused as what stands there.
 abbrev pub ReadsTable : {T : Type 0} → (List ℕ → Tabled T) → Result T TableStop → Option Held → List ℕ → Type 0
 ReadsTable table_of (Ok table) shelf name = (text : Option (List ℕ)) × Stood shelf name text × (tabled table_of text ≡ Good table)
@@ -79,10 +74,11 @@ abbrev pub CountsTable : {T : Type 0} → Result T TableStop → ℕ → ℕ →
 CountsTable (Ok table) before now = now ≡ before
 CountsTable (Err stop) before now = CountsTableStop stop before now
 
--- a shelf that gives nothing, and a text that is no table, as why no table is read
-abbrev pub stop_of_shelf : ShelfStop → TableStop
-stop_of_shelf Absent = Refuses refusals.Absent
-stop_of_shelf Failed = ShelfFault
+-- octets that are not read, and a text that is no table, as why no table is read
+abbrev pub stop_of_read : ReadStop → TableStop
+stop_of_read reads.Absent = Refuses refusals.Absent
+stop_of_read reads.Failed = ShelfFault
+stop_of_read reads.Memory = Memory
 
 abbrev pub stop_of_fault : TableFault → TableStop
 stop_of_fault faults.TooLarge = Refuses refusals.TooLarge

@@ -4,7 +4,7 @@ use Rattle.std.specs.Prelude.{◌≡◌, ℕ, List, [], Option, Some, None, Ok, 
 use Rattle.std.specs.declared.result.Result.{Result}
 use Rattle.grib_reasons.specs.declared.table.TableRefusal.{TableRefusal}
 use Rattle.grib_io.specs.Outside.{Counted}
-use Rattle.grib_io.specs.Shelves.{Held}
+use Rattle.grib_io.specs.Shelves.{Held, Stood}
 use Rattle.grib_params.specs.Table.{Entries}
 use Rattle.grib_params.specs.Surfaces.{SurfaceEntries}
 use Rattle.grib_names.specs.Table.{NameEntries}
@@ -13,7 +13,7 @@ use Rattle.grib_table.specs.declared.stop.TableStop.{TableStop}
 use Rattle.grib_table.specs.declared.stop.TableStop.TheVariants as stops
 use Rattle.grib_table.specs.declared.stop.TablesStop.{TablesStop}
 use Rattle.grib_table.specs.declared.stop.TablesStop.TheVariants.{Refused as Refuses, SurfacesRefused as RefusesSurfaces, ShelfFault, Memory}
-use Rattle.grib_table.specs.Tabled.{Tabled, Good, Refused, Stood, ReadsTable, parameters_of, surfaces_of, names_of, tabled}
+use Rattle.grib_table.specs.Tabled.{Tabled, Good, Refused, ReadsTable, parameters_of, surfaces_of, names_of, tabled}
 
 -- the names under which tables are asked for
 pub record Asked : Type 0 where

@@ -1,14 +1,12 @@
 //! Why no table is read.
 
 ghost use Rattle.std.specs.Prelude.{◌≡◌};
-ghost use Rattle.grib_table.specs.Tabled.{stop_of_fault, stop_of_shelf};
+ghost use Rattle.grib_table.specs.Tabled.{stop_of_fault, stop_of_read};
 ghost use Rattle.grib_table.specs.Together.{table_stop};
-ghost use Rattle.grib_table.specs.declared.stop.TableStop.TheVariants.{Memory};
 
-use grib_io::ShelfStop;
+use grib_io::ReadStop;
 use grib_params::TableFault;
 use grib_reasons::TableRefusal;
-use std::alloc::AllocError;
 use thiserror::Error;
 
 /// Why no table is read.
@@ -25,21 +23,14 @@ pub enum TableStop {
     Memory,
 }
 
-impl From<AllocError> for TableStop {
-    ghost from_gives = { λ _ stop. stop ≡ Memory };
+impl From<ReadStop> for TableStop {
+    ghost from_gives = { λ read stop. stop ≡ stop_of_read read };
 
-    fn from(_error: AllocError) -> TableStop {
-        TableStop::Memory
-    }
-}
-
-impl From<ShelfStop> for TableStop {
-    ghost from_gives = { λ shelf stop. stop ≡ stop_of_shelf shelf };
-
-    fn from(stop: ShelfStop) -> TableStop {
+    fn from(stop: ReadStop) -> TableStop {
         match stop {
-            ShelfStop::Absent => TableStop::Refused(TableRefusal::Absent),
-            ShelfStop::Failed => TableStop::ShelfFault,
+            ReadStop::Absent => TableStop::Refused(TableRefusal::Absent),
+            ReadStop::Failed => TableStop::ShelfFault,
+            ReadStop::Memory => TableStop::Memory,
         }
     }
 }

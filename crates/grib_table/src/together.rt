@@ -2,15 +2,14 @@
 
 ghost use Rattle.std.specs.Prelude.{◌≡◌, option_copied};
 ghost use Rattle.grib_io.specs.Shelves.{Stays};
-ghost use Rattle.grib_table.specs.Tabled.{CountsTable, names_of, parameters_of, surfaces_of};
 ghost use Rattle.grib_table.specs.Together as specs;
-ghost use Rattle.grib_table.specs.Together.{CountsTables, ReadsTables, ReadsWhere, asked};
+ghost use Rattle.grib_table.specs.Together.{CountsTables, ReadsTables, asked};
 
-use crate::reading::{read_names, read_surfaces, read_table};
+use crate::reading::table_under;
 use crate::stop::{TableStop, TablesStop};
 use grib_io::Shelf;
 use grib_names::NameTable;
-use grib_params::{FromRecords, SurfaceTable, Table};
+use grib_params::{SurfaceTable, Table};
 use std::alloc::Global;
 
 /// The tables of a run. One that is not asked for has nothing.
@@ -42,65 +41,17 @@ pub fn read_tables<H: Shelf>(
     ensures kept { Stays (H.contents shelf.old) (H.contents shelf.new) }
     ensures counted { CountsTables result (H.faults shelf.old) (H.faults shelf.new) }
 {
-    let parameters = parameters_under(alloc, parameters, shelf)?;
-    let surfaces = match surfaces_under(alloc, surfaces, shelf) {
+    let parameters: Table = table_under(alloc, parameters, shelf)?;
+    let surfaces: SurfaceTable = match table_under(alloc, surfaces, shelf) {
         Ok(surfaces) => surfaces,
         Err(stop) => return Err(surfaces_stop(stop)),
     };
-    let names = names_under(alloc, names, shelf)?;
+    let names: NameTable = table_under(alloc, names, shelf)?;
     Ok(Tables {
         parameters,
         surfaces,
         names,
     })
-}
-
-/// Reads the parameter table that stands under the name, if one is given.
-fn parameters_under<H: Shelf>(
-    alloc: Global,
-    name: Option<&str>,
-    shelf: &mut H,
-) -> Result<Table, TableStop>
-    ensures read { ReadsWhere parameters_of result (H.contents shelf.old) (option_copied name.entry) }
-    ensures kept { Stays (H.contents shelf.old) (H.contents shelf.new) }
-    ensures counted { CountsTable result (H.faults shelf.old) (H.faults shelf.new) }
-{
-    match name {
-        Some(name) => read_table(alloc, name, shelf),
-        None => Ok(Table::empty(alloc)),
-    }
-}
-
-/// Reads the table of surfaces that stands under the name, if one is given.
-fn surfaces_under<H: Shelf>(
-    alloc: Global,
-    name: Option<&str>,
-    shelf: &mut H,
-) -> Result<SurfaceTable, TableStop>
-    ensures read { ReadsWhere surfaces_of result (H.contents shelf.old) (option_copied name.entry) }
-    ensures kept { Stays (H.contents shelf.old) (H.contents shelf.new) }
-    ensures counted { CountsTable result (H.faults shelf.old) (H.faults shelf.new) }
-{
-    match name {
-        Some(name) => read_surfaces(alloc, name, shelf),
-        None => Ok(SurfaceTable::empty(alloc)),
-    }
-}
-
-/// Reads the table of names that stands under the name, if one is given.
-fn names_under<H: Shelf>(
-    alloc: Global,
-    name: Option<&str>,
-    shelf: &mut H,
-) -> Result<NameTable, TableStop>
-    ensures read { ReadsWhere names_of result (H.contents shelf.old) (option_copied name.entry) }
-    ensures kept { Stays (H.contents shelf.old) (H.contents shelf.new) }
-    ensures counted { CountsTable result (H.faults shelf.old) (H.faults shelf.new) }
-{
-    match name {
-        Some(name) => read_names(alloc, name, shelf),
-        None => Ok(NameTable::empty(alloc)),
-    }
 }
 
 /// Why the table of surfaces is not read.

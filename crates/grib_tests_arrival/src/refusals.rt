@@ -32,7 +32,7 @@ fn is_refused(alloc: Global, octets: &[u8], octet: u64, reason: Reason, detail: 
 #[test]
 fn contents_are_refused(rt: HostRuntime) -> Result<(), Fail> {
     let alloc = rt.alloc();
-    let rows: [(&[(usize, u8)], u64, Reason, u64); 8] = [
+    let rules: [(&[(usize, u8)], u64, Reason, u64); 8] = [
         (&[(43, 1)], 43, Reason::GridSource, 1),
         (&[(50, 0), (51, 2)], 50, Reason::GridTemplate, 2),
         (&[(50, 0), (51, 0x1e)], 38, Reason::SectionLength, 72),
@@ -42,7 +42,7 @@ fn contents_are_refused(rt: HostRuntime) -> Result<(), Fail> {
         (&[(117, 0), (118, 8)], 110, Reason::SectionLength, 34),
         (&[(115, 0), (116, 1)], 110, Reason::SectionLength, 34),
     ];
-    for (edits, octet, reason, detail) in rows {
+    for (edits, octet, reason, detail) in rules {
         let octets = edited(alloc, &PLAIN, edits)?;
         assert!(rt; is_refused(alloc, octets.as_slice(), octet, reason, detail));
     }
@@ -52,7 +52,7 @@ fn contents_are_refused(rt: HostRuntime) -> Result<(), Fail> {
 #[test]
 fn lengths_and_marks_are_refused(rt: HostRuntime) -> Result<(), Fail> {
     let alloc = rt.alloc();
-    let rows: [(&[(usize, u8)], u64, Reason, u64); 13] = [
+    let rules: [(&[(usize, u8)], u64, Reason, u64); 13] = [
         (&[(16, 0x13)], 9, Reason::TotalLength, 19),
         (&[(16, 0x14)], 17, Reason::EndMark, 21),
         (
@@ -77,7 +77,7 @@ fn lengths_and_marks_are_refused(rt: HostRuntime) -> Result<(), Fail> {
         (&[(169, 6), (170, 0)], 165, Reason::BitmapSize, 6),
         (&[(170, 254)], 170, Reason::NoEarlierBitmap, 254),
     ];
-    for (edits, octet, reason, detail) in rows {
+    for (edits, octet, reason, detail) in rules {
         let octets = edited(alloc, &PLAIN, edits)?;
         assert!(rt; is_refused(alloc, octets.as_slice(), octet, reason, detail));
     }
@@ -97,7 +97,7 @@ fn differences_are_refused(rt: HostRuntime) -> Result<(), Fail> {
     ];
     let whole = message_of(alloc, 215, &sections)?;
     assert_eq!(rt; refused(alloc, whole.as_slice(), 1), None);
-    let rows: [(&[(usize, u8)], u64, Reason, u64); 4] = [
+    let rules: [(&[(usize, u8)], u64, Reason, u64); 4] = [
         (&[(191, 3)], 191, Reason::DifferenceOrder, 3),
         (&[(192, 5)], 192, Reason::ExtraOctets, 5),
         (&[(204, 0x85)], 204, Reason::FirstValueSign, 1),
@@ -108,7 +108,7 @@ fn differences_are_refused(rt: HostRuntime) -> Result<(), Fail> {
             4294967295,
         ),
     ];
-    for (edits, octet, reason, detail) in rows {
+    for (edits, octet, reason, detail) in rules {
         let octets = edited(alloc, whole.as_slice(), edits)?;
         assert!(rt; is_refused(alloc, octets.as_slice(), octet, reason, detail));
     }
@@ -129,7 +129,7 @@ fn groups_are_refused(rt: HostRuntime) -> Result<(), Fail> {
     ];
     let whole = message_of(alloc, 209, &sections)?;
     assert_eq!(rt; refused(alloc, whole.as_slice(), 1), None);
-    let rows: [(&[(usize, u8)], u64, Reason, u64); 6] = [
+    let rules: [(&[(usize, u8)], u64, Reason, u64); 6] = [
         (&[(166, 3)], 166, Reason::MissingManagement, 3),
         (&[(178, 4)], 175, Reason::GroupCount, 4),
         (&[(179, 0x20)], 203, Reason::GroupWidth, 1),
@@ -137,7 +137,7 @@ fn groups_are_refused(rt: HostRuntime) -> Result<(), Fail> {
         (&[(189, 2)], 197, Reason::GroupShape, 1),
         (&[(189, 4)], 197, Reason::GroupShape, 1),
     ];
-    for (edits, octet, reason, detail) in rows {
+    for (edits, octet, reason, detail) in rules {
         let octets = edited(alloc, whole.as_slice(), edits)?;
         assert!(rt; is_refused(alloc, octets.as_slice(), octet, reason, detail));
     }

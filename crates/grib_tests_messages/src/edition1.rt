@@ -84,7 +84,7 @@ fn changed(alloc: Global, message: &[u8], change: &Change) -> Result<Option<Faul
 }
 
 #[test]
-fn the_first_row_that_fails_refuses(rt: HostRuntime) -> Result<(), Fail> {
+fn the_first_rule_that_fails_refuses(rt: HostRuntime) -> Result<(), Fail> {
     let changes = [
         (7, [0x0b, 1], 5, Reason::TotalLength, 11),
         (7, [0x57, 1], 69, Reason::SectionLength, 16),

@@ -225,7 +225,7 @@ fn cut_messages_end_too_early(rt: HostRuntime) -> Result<(), Fail> {
 }
 
 #[test]
-fn each_kind_of_row_refuses_at_its_octet(rt: HostRuntime) -> Result<(), Fail> {
+fn each_kind_of_rule_refuses_at_its_octet(rt: HostRuntime) -> Result<(), Fail> {
     // an octet of the plain message, what stands there instead, and the refusal
     let changes = [
         (16usize, 19, 9, Reason::TotalLength, 19),

@@ -1,7 +1,7 @@
 //! Messages are repacked to what was worked by hand from the tables of the manual and the rules of packing.
 
 ghost use Rattle.grib_packing.specs.Written.{IsTarget};
-ghost use Rattle.grib_repack.specs.Faults.{target_of};
+ghost use Rattle.grib_packing.specs.Targets.{target_of};
 
 use crate::worked::{
     FIRST_VALUES, FOUR_NUMBERS, FOUR_VALUES, GRID, IDENTIFICATION, NO_BITMAP, OWN_BITMAP, PRODUCT,

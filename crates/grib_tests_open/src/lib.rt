@@ -12,6 +12,6 @@ mod lines;
 #[cfg(test)]
 mod messages;
 #[cfg(test)]
-mod rows;
+mod rules;
 #[cfg(test)]
 mod values;

@@ -1,7 +1,7 @@
 -- The codes of a few words.
 use Rattle.std.proofs.Common.{◌≡◌, ℕ, [], ◌∷◌, refl}
 use Rattle.grib_base.specs.declared.code.Code.{Code}
-use Rattle.grib_packing.specs.Words.{code_of, codes_of}
+use Rattle.grib_codes.specs.Words.{code_of, codes_of}
 
 pub three_codes : (k a b c : ℕ) (x y z : Code) → code_of k a ≡ x → code_of k b ≡ y → code_of k c ≡ z → codes_of k (a ∷ b ∷ c ∷ []) ≡ x ∷ y ∷ z ∷ []
 three_codes k a b c x y z first second third = rw (first, second, third) refl

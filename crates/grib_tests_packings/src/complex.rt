@@ -161,7 +161,7 @@ fn pushed<K: Keeper + Drop>(
     feeding
 }
 
-/// Whether a Section 7 that begins at octet 200 passes all rows where it comes in pieces of this many octets.
+/// Whether a Section 7 that begins at octet 200 passes all rules where it comes in pieces of this many octets.
 /// No point is kept.
 fn checked_in_pieces(
     rt: &impl Abort,
@@ -174,7 +174,7 @@ fn checked_in_pieces(
     checked_from(rt, alloc, representation, points, 200, data, size)
 }
 
-/// Whether a Section 7 that begins at this octet passes all rows where it comes in pieces of this many octets.
+/// Whether a Section 7 that begins at this octet passes all rules where it comes in pieces of this many octets.
 fn checked_from(
     rt: &impl Abort,
     alloc: Global,

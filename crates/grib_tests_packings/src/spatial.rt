@@ -1,7 +1,7 @@
 //! Numbers of worked messages and their differences, and numbers that leave the range.
 
 ghost use Rattle.std.specs.Prelude.{◌≡◌, ◌^◌, ◌≤◌};
-ghost use Rattle.grib_spatial.specs.Order.{IsOrder};
+ghost use Rattle.grib_complex_reading.specs.Order.{IsOrder};
 
 use grib_base::List;
 use grib_spatial::{Differences, Running, difference, undo};

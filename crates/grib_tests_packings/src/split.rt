@@ -1,10 +1,10 @@
 //! Groupings that are worked by hand: those of a worked message, and of codes that are all the same.
 
 ghost use Rattle.std.specs.Prelude.{◌≡◌, ◌<◌, ◌≤◌, vec_len, IfOk};
-ghost use Rattle.grib_packing.specs.Span.{IsBelow};
+ghost use Rattle.grib_codes.specs.Span.{IsBelow};
 
 use grib_base::Code;
-use grib_packing::{Codes, word_of};
+use grib_codes::{Codes, word_of};
 use grib_split::{Costs, chosen_lengths, fewest_lengths};
 use std::alloc::{AllocError, Global};
 use std::test::Fail;

@@ -5,7 +5,8 @@ use Rattle.grib_keys.specs.declared.condition.Value.{Value}
 use Rattle.grib_keys.specs.Keys.{name_of}
 use Rattle.grib_keys.specs.Words.{value_text}
 use Rattle.grib_select.specs.Values.{key_value_of}
-use Rattle.grib1_sections.specs.Keys.{name1_of, number1_of}
+use Rattle.grib1_sections.specs.Keys.{number1_of}
+use Rattle.grib_keys.specs.Keys1.{name1_of}
 use Rattle.grib_names.specs.Rows.{Name}
 use Rattle.grib_names.specs.Table.{NameEntries}
 use Rattle.grib_text.specs.declared.column.Column.{Column}

@@ -7,8 +7,9 @@ use Rattle.grib_keys.specs.declared.condition.Change.{Change}
 use Rattle.grib_keys.specs.Keys.{keys}
 use Rattle.grib_keys.specs.Words.{word_of}
 use Rattle.grib_select.specs.Values.{key_value_of}
-use Rattle.grib1_sections.specs.declared.key.Key1.{Key1}
-use Rattle.grib1_sections.specs.Keys.{name1_of, keys1, number1_of}
+use Rattle.grib_keys.specs.declared.key1.Key1.{Key1}
+use Rattle.grib1_sections.specs.Keys.{number1_of}
+use Rattle.grib_keys.specs.Keys1.{name1_of, keys1}
 
 abbrev pub change : Key → Value → Change
 change key value = record { key = key; value = value }

@@ -3,7 +3,7 @@ use Rattle.std.specs.Prelude.{ℕ, ◌+◌, cond, Option, Some, None, option_map
 use Rattle.std.specs.Fmt.{decimal, signed_decimal}
 use Rattle.grib_bits.specs.Bits.{bits_of, signed}
 use Rattle.grib_dyadic.specs.Reference.{Binary}
-use Rattle.grib2_products.specs.Opaque.{instant_shift}
+use Rattle.grib2_sections.specs.Instant.{instant_shift}
 use Rattle.grib_packing.specs.Entries.{is_packing}
 use Rattle.grib_packing.specs.declared.column.Point.{Point}
 use Rattle.grib_packing.specs.declared.column.Point.TheVariants.{Scaled, Missing, Missing2}

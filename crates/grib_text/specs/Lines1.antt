@@ -1,7 +1,7 @@
 -- The line that `list` prints of a message of edition 1, with its newline (10).
 use Rattle.std.specs.Prelude.{ℕ, List, [], ◌∷◌, ◌++◌, codes, ℤ, pos, ◌+ℤ◌, ◌-ℤ◌, ◌*ℤ◌}
 use Rattle.std.specs.Fmt.{decimal}
-use Rattle.grib1_sections.specs.declared.key.Key1.TheVariants.{Version, Centre, Parameter, LevelType, Level, YearOfCentury, Month, Day, Hour, Minute, Unit as TimeUnit, P1, P2, TimeRange, Century}
+use Rattle.grib_keys.specs.declared.key1.Key1.TheVariants.{Version, Centre, Parameter, LevelType, Level, YearOfCentury, Month, Day, Hour, Minute, Unit as TimeUnit, P1, P2, TimeRange, Century}
 use Rattle.grib1_sections.specs.Keys.{key1_of}
 use Rattle.grib1_sections.specs.Grid.{grid_type}
 use Rattle.grib1_sections.specs.Data.{bit_width}

@@ -1,7 +1,7 @@
 //! The line of `list` for messages of edition 1.
 
 ghost use Rattle.std.specs.Prelude.{◌≡◌, ◌<◌, ◌^◌, Some, string_bytes, IfOk};
-ghost use Rattle.grib1_sections.specs.declared.key.Key1.TheVariants.{Version, Centre, Parameter, LevelType, Level, YearOfCentury, Month, Day, Hour, Minute, Unit as TimeUnit, P1, P2, TimeRange, Century};
+ghost use Rattle.grib_keys.specs.declared.key1.Key1.TheVariants.{Version, Centre, Parameter, LevelType, Level, YearOfCentury, Month, Day, Hour, Minute, Unit as TimeUnit, P1, P2, TimeRange, Century};
 ghost use Rattle.grib1_sections.specs.Keys.{key1_of};
 ghost use Rattle.grib1_sections.specs.Grid.{grid_type};
 ghost use Rattle.grib1_sections.specs.Data.{bit_width};

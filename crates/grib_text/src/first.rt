@@ -2,7 +2,7 @@
 
 ghost use Rattle.std.specs.Prelude.{◌≡◌, ◌++◌, string_bytes, IfOk, OnOk};
 ghost use Rattle.grib_text.specs.KeyLines as lines;
-ghost use Rattle.grib1_sections.specs.Keys.{keys1};
+ghost use Rattle.grib_keys.specs.Keys1.{keys1};
 
 use grib1_sections::{Key1, Message1};
 use std::alloc::{AllocError, Global};

@@ -6,7 +6,7 @@ ghost use Rattle.grib_text.specs.Lines as lines;
 use crate::missing::OrMissing;
 use grib_bits::signed_of;
 use grib2_message::FieldSummary;
-use grib2_products::instant_shift;
+use grib2_sections::instant_shift;
 use std::fmt;
 
 /// A product: its template, what it is of, and for when and where, if the template is known to say that as

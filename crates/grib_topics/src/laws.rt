@@ -5,7 +5,7 @@ ghost use Rattle.std.specs.List.{list_any};
 ghost use Rattle.grib_base.specs.declared.fault.Reason.{Reason};
 ghost use Rattle.grib_base.specs.Reason as reasons;
 ghost use Rattle.grib_keys.specs.Keys as keys;
-ghost use Rattle.grib1_sections.specs.Keys as first_keys;
+ghost use Rattle.grib_keys.specs.Keys1 as first_keys;
 ghost use Rattle.grib_reasons.specs.declared.demotion.Demotion.{Demotion};
 ghost use Rattle.grib_reasons.specs.declared.loss.Loss.{Loss};
 ghost use Rattle.grib_reasons.specs.Demotions as demotions;

@@ -1,28 +1,19 @@
 -- Octets of numbers in turn that go through a buffer to a sink.
-use Rattle.std.proofs.Common.{◌≡◌, ℕ, zero, suc, ◌+◌, ◌-◌, ◌<◌, List, [], ◌∷◌, ◌++◌, ap, sym, ◌∙◌, append_assoc, append-nil, subst, arith}
+use Rattle.std.proofs.Common.{◌≡◌, ℕ, ◌+◌, ◌-◌, ◌<◌, List, [], ◌++◌, ap, sym, ◌∙◌, append_assoc, append-nil, subst, arith}
 use Rattle.std.specs.declared.option.Option.{Option}
 use Rattle.std.specs.List.{range_with_len}
 use Rattle.std.specs.Prelude.{flat_map}
 use Rattle.std.proofs.lemmas.Grind.{flat_map-append}
+use Rattle.grib_bits.proofs.Arithmetic.{range_append}
 use Rattle.grib_io.specs.Outside.{AppendsFront}
 use Rattle.grib_command.specs.Pending.{AppendsAllBut}
 use Rattle.grib_command.proofs.Outside.{front_more}
 use Rattle.grib_report.proofs.Pending.{pending_more, pending_front}
 
-range_parts : (a m n : ℕ) → range_with_len a (m + n) ≡ range_with_len a m ++ range_with_len (a + m) n
-range_parts a zero n =
-    let e : 0 + n ≡ n = omega arith in
-    let f : a ≡ a + 0 = omega arith in
-    ap (range_with_len a) e ∙ ap (λ (x : ℕ). range_with_len x n) f
-range_parts a (suc m) n =
-    let e : suc m + n ≡ suc (m + n) = omega arith in
-    let f : (a + 1) + m ≡ a + suc m = omega arith in
-    ap (range_with_len a) e ∙ ap (λ (xs : List ℕ). a ∷ xs) (range_parts (a + 1) m n ∙ ap (λ (x : ℕ). range_with_len (a + 1) m ++ range_with_len x n) f)
-
 flat_parts : (f : ℕ → List ℕ) (m n : ℕ) → flat_map f (range_with_len 0 (m + n)) ≡ flat_map f (range_with_len 0 m) ++ flat_map f (range_with_len m n)
 flat_parts f m n =
     let e : 0 + m ≡ m = omega arith in
-    ap (flat_map f) (range_parts 0 m n) ∙ flat_map-append f (range_with_len 0 m) (range_with_len (0 + m) n)
+    ap (flat_map f) (range_append 0 m n) ∙ flat_map-append f (range_with_len 0 m) (range_with_len (0 + m) n)
     ∙ ap (λ (x : ℕ). flat_map f (range_with_len 0 m) ++ flat_map f (range_with_len x n)) e
 
 flat_next : (f : ℕ → List ℕ) (old : List ℕ) (i : ℕ) → (old ++ flat_map f (range_with_len 0 i)) ++ f i ≡ old ++ flat_map f (range_with_len 0 (i + 1))

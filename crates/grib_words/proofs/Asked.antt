@@ -13,9 +13,9 @@ use Rattle.grib_keys.specs.declared.condition.Value.{Value}
 use Rattle.grib_keys.specs.declared.condition.Change.{Change}
 use Rattle.grib_keys.specs.declared.key.Key.TheVariants.{Discipline}
 use Rattle.grib_keys.specs.Keys.{name_of, key_named, can_set}
-use Rattle.grib1_sections.specs.declared.key.Key1.{Key1}
-use Rattle.grib1_sections.specs.declared.key.Key1.TheVariants.{Version}
-use Rattle.grib1_sections.specs.Keys.{name1_of, key1_named, can_set1}
+use Rattle.grib_keys.specs.declared.key1.Key1.{Key1}
+use Rattle.grib_keys.specs.declared.key1.Key1.TheVariants.{Version}
+use Rattle.grib_keys.specs.Keys1.{name1_of, key1_named, can_set1}
 use Rattle.grib1_select.specs.declared.condition.Change1.{Change1}
 use Rattle.grib_keys.specs.declared.wanted.Wanted.{Wanted}
 use Rattle.grib1_select.specs.declared.condition.Wanted1.{Wanted1}
@@ -24,10 +24,10 @@ use Rattle.grib_text.specs.declared.column.LineForm.{LineForm}
 use Rattle.grib_text.specs.declared.column.LineForm.TheVariants as forms
 use Rattle.grib_text.specs.declared.column.Column.{Column}
 use Rattle.grib_synthetic.specs.Made.{MayBeMade}
-use Rattle.grib_repack.specs.declared.target.RepackTarget.{RepackTarget}
+use Rattle.grib_packing.specs.declared.target.RepackTarget.{RepackTarget}
 use Rattle.grib_rescan.specs.declared.points.Area.{Area}
 use Rattle.grib_rescan.specs.declared.bounds.Bounds.{Bounds}
-use Rattle.grib_repack.specs.declared.target.RepackTarget.TheVariants.{Simple, Complex, Spatial}
+use Rattle.grib_packing.specs.declared.target.RepackTarget.TheVariants.{Simple, Complex, Spatial}
 use Rattle.grib_base.specs.declared.profile.Profile.{Profile}
 use Rattle.grib_command.specs.declared.job.Job.{Job}
 use Rattle.grib_command.specs.Jobs.{IsJob, HasPlaces, is_target}

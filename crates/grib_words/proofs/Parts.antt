@@ -7,8 +7,8 @@ use Rattle.grib_keys.specs.declared.key.Key.{Key}
 use Rattle.grib_keys.specs.declared.condition.Value.{Value}
 use Rattle.grib_keys.specs.Keys.{key_named}
 use Rattle.grib_words.specs.declared.command.Command.{Command}
-use Rattle.grib1_sections.specs.declared.key.Key1.{Key1}
-use Rattle.grib1_sections.specs.Keys.{key1_named}
+use Rattle.grib_keys.specs.declared.key1.Key1.{Key1}
+use Rattle.grib_keys.specs.Keys1.{key1_named}
 use Rattle.grib_numbers.specs.Numbers.{signed_number}
 use Rattle.grib_numbers.proofs.Places.{no_place}
 use Rattle.grib_words.specs.Values.{key_value}

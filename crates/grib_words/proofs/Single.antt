@@ -16,9 +16,9 @@ use Rattle.grib_keys.specs.declared.condition.Value.TheVariants.{Number}
 use Rattle.grib_keys.specs.declared.condition.Change.{Change}
 use Rattle.grib_keys.specs.declared.wanted.Choice.TheVariants.{One}
 use Rattle.grib_keys.specs.Keys.{name_of, keys, key_named}
-use Rattle.grib1_sections.specs.declared.key.Key1.{Key1}
-use Rattle.grib1_sections.specs.declared.key.Key1.TheVariants.{Version}
-use Rattle.grib1_sections.specs.Keys.{name1_of, keys1, key1_named}
+use Rattle.grib_keys.specs.declared.key1.Key1.{Key1}
+use Rattle.grib_keys.specs.declared.key1.Key1.TheVariants.{Version}
+use Rattle.grib_keys.specs.Keys1.{name1_of, keys1, key1_named}
 use Rattle.grib1_select.specs.declared.condition.Change1.{Change1}
 use Rattle.grib_numbers.specs.Numbers.{is_number, is_between, begins_from_one, from_zero, below_zero, signed_number}
 use Rattle.grib_words.specs.Values.{key_value}

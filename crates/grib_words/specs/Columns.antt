@@ -4,7 +4,7 @@ use Rattle.std.specs.List.{list_all, filter_map}
 use Rattle.std.specs.Option.{option_or}
 use Rattle.std.specs.Str.{bytes_eq}
 use Rattle.grib_keys.specs.Keys.{key_named}
-use Rattle.grib1_sections.specs.Keys.{key1_named}
+use Rattle.grib_keys.specs.Keys1.{key1_named}
 use Rattle.grib_text.specs.declared.column.Column.{Column}
 use Rattle.grib_text.specs.declared.column.Column.TheVariants as columns
 use Rattle.grib_names.specs.Rows.{is_name}

@@ -6,8 +6,8 @@ use Rattle.std.specs.Option.{option_map_or}
 use Rattle.std.specs.Str.{bytes_eq}
 use Rattle.grib_keys.specs.declared.key.Key.{Key}
 use Rattle.grib_keys.specs.Keys.{key_named, can_set}
-use Rattle.grib1_sections.specs.declared.key.Key1.{Key1}
-use Rattle.grib1_sections.specs.Keys.{key1_named, can_set1}
+use Rattle.grib_keys.specs.declared.key1.Key1.{Key1}
+use Rattle.grib_keys.specs.Keys1.{key1_named, can_set1}
 use Rattle.grib_words.specs.declared.command.Command.{Command}
 use Rattle.grib_words.specs.declared.command.Command.TheVariants as the
 use Rattle.grib_words.specs.declared.command.Command.TheVariants.{Check, Keys, Stats, Dump, Values, Coordinates, Filter, Split, Set, Repack, Migrate, Demote, Rescan, Crop, Compare, Make, Help, Version}

@@ -12,8 +12,8 @@ use Rattle.grib_keys.specs.declared.wanted.Test.{Test}
 use Rattle.grib_keys.specs.declared.wanted.Test.TheVariants.{Among, Outside}
 use Rattle.grib_keys.specs.declared.wanted.Wanted.{Wanted}
 use Rattle.grib_keys.specs.Keys.{key_named}
-use Rattle.grib1_sections.specs.declared.key.Key1.{Key1}
-use Rattle.grib1_sections.specs.Keys.{key1_named}
+use Rattle.grib_keys.specs.declared.key1.Key1.{Key1}
+use Rattle.grib_keys.specs.Keys1.{key1_named}
 use Rattle.grib1_select.specs.declared.condition.Change1.{Change1}
 use Rattle.grib1_select.specs.declared.condition.Wanted1.{Wanted1}
 use Rattle.grib_dates.specs.declared.rule.Dates.{Dates}
@@ -26,8 +26,8 @@ use Rattle.grib_migrate.specs.declared.labels.Local.{Local}
 use Rattle.grib_migrate.specs.declared.labels.Local.TheVariants.{Refuse, Keep, Ecmwf}
 use Rattle.grib_params.specs.declared.matching.TableMatch.{TableMatch}
 use Rattle.grib_params.specs.declared.matching.TableMatch.TheVariants.{Any, Same}
-use Rattle.grib_repack.specs.declared.target.RepackTarget.{RepackTarget}
-use Rattle.grib_repack.specs.declared.target.RepackTarget.TheVariants.{Simple, Complex, Spatial, Coded}
+use Rattle.grib_packing.specs.declared.target.RepackTarget.{RepackTarget}
+use Rattle.grib_packing.specs.declared.target.RepackTarget.TheVariants.{Simple, Complex, Spatial, Coded}
 use Rattle.grib_rescan.specs.declared.points.Area.{Area}
 use Rattle.grib_rescan.specs.declared.bounds.Bounds.{Bounds}
 use Rattle.grib_rescan.specs.declared.bounds.Bounds.TheVariants.{Box, Nearest}

@@ -17,8 +17,8 @@ use grib_command::{Job, Name, Page};
 use grib_migrate::Local;
 use grib_nearest::Format;
 use grib_numbers::{degrees_of, number_of};
+use grib_packing::RepackTarget;
 use grib_params::TableMatch;
-use grib_repack::RepackTarget;
 use grib_rescan::Area;
 use std::alloc::{AllocError, Global};
 

@@ -8,7 +8,7 @@ ghost use Rattle.grib_keys.specs.declared.condition.Value.TheVariants.{Number, M
 ghost use Rattle.grib_keys.specs.declared.condition.Change.{Change};
 ghost use Rattle.grib_keys.specs.declared.wanted.Choice.TheVariants.{One, Between, From, UpTo};
 ghost use Rattle.grib_keys.specs.Words.{word_of};
-ghost use Rattle.grib1_sections.specs.declared.key.Key1.TheVariants.{Level};
+ghost use Rattle.grib_keys.specs.declared.key1.Key1.TheVariants.{Level};
 ghost use Rattle.grib1_select.specs.declared.condition.Change1.{Change1};
 ghost use Rattle.grib2_message.specs.Fields.{field_count};
 ghost use Rattle.grib2_message.specs.Message.{IsAnyMessage};

@@ -2,8 +2,8 @@
 
 use grib_base::Code;
 use grib_bits::BitWriter;
+use grib_codes::{Codes, word_of};
 use grib_groups::{Layout, encode_groups, encode_measured_groups, measures_of};
-use grib_packing::{Codes, word_of};
 use std::test::Fail;
 
 const PRIMARY: Code = Code::Primary;

@@ -1,10 +1,10 @@
 use Rattle.std.proofs.Common.{◌≡◌, ℕ, ◌≤◌, None, length, take, length-take-le, sym, ap, ap₂, ◌∙◌, subst, arith}
-use Rattle.grib_base.specs.Rows.{first_fault}
+use Rattle.grib_base.specs.Rules.{first_fault}
 use Rattle.grib2_sections.specs.Head.{total_length_1}
 use Rattle.grib2_sections.specs.Verdict.{Accepted}
-use Rattle.grib1_sections.specs.Frame.{end_rows, section_at}
-use Rattle.grib1_sections.specs.Grid.{grid_rows, grid_points}
-use Rattle.grib1_sections.specs.Data.{data_rows}
+use Rattle.grib1_sections.specs.Frame.{end_rules, section_at}
+use Rattle.grib1_sections.specs.Grid.{grid_rules, grid_points}
+use Rattle.grib1_sections.specs.Data.{data_rules}
 use Rattle.grib1_sections.specs.Acceptance.{section_fault, bitmap_fault, verdict_1, grid_start, data_start, end_start, grid as grid_of, values_of}
 use Rattle.grib1_sections.specs.Message.{IsMessage1}
 use Rattle.grib1_sections.proofs.Fronts.{accepted_there, front_is_message}
@@ -17,7 +17,7 @@ returns-in_err-grid c =
     let first = c.in_ok-identification.ensures in
     let place : c.end.result ≡ grid_start m = c.end.ensures ∙ grid_place m c.in_ok-identification.identification.octets.now c.in_ok-identification.identification.start first.1 first.2 in
     refused _ _ _ _ c.from_residual-in_err-grid.ensures.1
-    (refused_grid m c.in_ok-total.ensures.0 first.0 _ (ap (λ q. section_fault m q 6 grid_rows) (sym place) ∙ c.in_err-grid.ensures))
+    (refused_grid m c.in_ok-total.ensures.0 first.0 _ (ap (λ q. section_fault m q 6 grid_rules) (sym place) ∙ c.in_err-grid.ensures))
 
 pub read_bitmap-requires-clause-start : goal.read_bitmap-requires-clause-start
 read_bitmap-requires-clause-start c =
@@ -40,7 +40,7 @@ returns-in_err-bitmap c =
     let m = c.args.octets.now in
     let first = c.in_ok-identification.ensures in
     let place : c.end.result ≡ grid_start m = c.end.ensures ∙ grid_place m c.in_ok-identification.identification.octets.now c.in_ok-identification.identification.start first.1 first.2 in
-    let second : section_fault m (grid_start m) 6 grid_rows ≡ None = ap (λ q. section_fault m q 6 grid_rows) (sym place) ∙ c.in_ok-grid.ensures.0 in
+    let second : section_fault m (grid_start m) 6 grid_rules ≡ None = ap (λ q. section_fault m q 6 grid_rules) (sym place) ∙ c.in_ok-grid.ensures.0 in
     passed_on _ _ _ (bitmap_fault m) _ c.from_residual-in_err-bitmap.ensures.1
     (λ fault e. refused_bitmap m c.in_ok-total.ensures.0 first.0 second fault e) c.in_err-bitmap.ensures
 
@@ -52,25 +52,25 @@ returns-in_err-data c =
     let m = c.args.octets.now in
     let first = c.in_ok-identification.ensures in
     let place : c.end.result ≡ grid_start m = c.end.ensures ∙ grid_place m c.in_ok-identification.identification.octets.now c.in_ok-identification.identification.start first.1 first.2 in
-    let second : section_fault m (grid_start m) 6 grid_rows ≡ None = ap (λ q. section_fault m q 6 grid_rows) (sym place) ∙ c.in_ok-grid.ensures.0 in
+    let second : section_fault m (grid_start m) 6 grid_rules ≡ None = ap (λ q. section_fault m q 6 grid_rules) (sym place) ∙ c.in_ok-grid.ensures.0 in
     let bitmap = c.in_ok-bitmap.ensures.1 in
     refused _ _ _ _ c.from_residual-in_err-data.ensures.1
     (refused_data m c.in_ok-total.ensures.0 first.0 second _ c.in_ok-bitmap.ensures.0
-    (ap₂ (λ q k. section_fault m q 11 (data_rows k)) (sym bitmap.place) (sym bitmap.present_are) ∙ c.in_err-data.ensures))
+    (ap₂ (λ q k. section_fault m q 11 (data_rules k)) (sym bitmap.place) (sym bitmap.present_are) ∙ c.in_err-data.ensures))
 
 pub returns-in_err-check_end : goal.returns-in_err-check_end
 returns-in_err-check_end c =
     let m = c.args.octets.now in
     let first = c.in_ok-identification.ensures in
     let place : c.end.result ≡ grid_start m = c.end.ensures ∙ grid_place m c.in_ok-identification.identification.octets.now c.in_ok-identification.identification.start first.1 first.2 in
-    let second : section_fault m (grid_start m) 6 grid_rows ≡ None = ap (λ q. section_fault m q 6 grid_rows) (sym place) ∙ c.in_ok-grid.ensures.0 in
+    let second : section_fault m (grid_start m) 6 grid_rules ≡ None = ap (λ q. section_fault m q 6 grid_rules) (sym place) ∙ c.in_ok-grid.ensures.0 in
     let bitmap = c.in_ok-bitmap.ensures.1 in
-    let fourth : section_fault m (data_start m) 11 (data_rows (values_of m)) ≡ None =
-    ap₂ (λ q k. section_fault m q 11 (data_rows k)) (sym bitmap.place) (sym bitmap.present_are) ∙ c.in_ok-data.ensures.0 in
+    let fourth : section_fault m (data_start m) 11 (data_rules (values_of m)) ≡ None =
+    ap₂ (λ q k. section_fault m q 11 (data_rules k)) (sym bitmap.place) (sym bitmap.present_are) ∙ c.in_ok-data.ensures.0 in
     let end : c.end-3.result ≡ end_start m = omega (arith, c.end-3.ensures, c.in_ok-data.ensures.1, end_place m c.in_ok-data.data.octets.now c.in_ok-bitmap.bitmap.end bitmap.place c.in_ok-data.ensures.2) in
     refused _ _ _ _ c.from_residual-in_err-check_end.ensures.1
     (refused_end m c.in_ok-total.ensures.0 first.0 second _ c.in_ok-bitmap.ensures.0 fourth
-    (ap (λ q. first_fault (end_rows m q)) (sym end) ∙ c.in_err-check_end.ensures))
+    (ap (λ q. first_fault (end_rules m q)) (sym end) ∙ c.in_err-check_end.ensures))
 
 pub of-requires : goal.of-requires
 of-requires c =

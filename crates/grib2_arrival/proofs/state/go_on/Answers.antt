@@ -1,6 +1,6 @@
 use Rattle.std.proofs.Common.{◌≡◌, ℕ, List, [], drop, length, refl, sym, ap, ◌∙◌, subst, arith}
 use Rattle.std.proofs.lemmas.Result.{err_from_is_err_and}
-use Rattle.grib_base.specs.Rows.{located}
+use Rattle.grib_base.specs.Rules.{located}
 use Rattle.grib_base.specs.declared.fault.ReadFault.TheVariants.{Refused as ReadRefused}
 use Rattle.grib2_message.specs.View.{octets_in_force}
 use Rattle.grib2_arrival.specs.Fed.{DataAgrees}

@@ -1,5 +1,5 @@
 use Rattle.std.proofs.Common.{◌≡◌, length, None, ap, ◌∙◌, arith}
-use Rattle.grib_base.specs.Rows.{located}
+use Rattle.grib_base.specs.Rules.{located}
 use Rattle.grib_packing.specs.Entries.{data_fault, column_from}
 use Rattle.grib2_message.specs.View.{octets_in_force}
 use Rattle.grib2_message.proofs.Checked.{stands_below}

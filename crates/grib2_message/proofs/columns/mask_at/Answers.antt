@@ -1,7 +1,7 @@
 use Rattle.std.proofs.Common.{◌≡◌, ℕ, Bool, None, Result, IfOk, List, length, sym, ap, ◌∙◌, arith}
 use Rattle.std.proofs.lemmas.Result.{IfOk-weaker}
-use Rattle.grib_base.specs.Rows.{first_fault}
-use Rattle.grib_bitmap.specs.Mask.{bitmap_indicator, bitmap_rows, mask_of, present_count}
+use Rattle.grib_base.specs.Rules.{first_fault}
+use Rattle.grib_bitmap.specs.Mask.{bitmap_indicator, bitmap_rules, mask_of, present_count}
 use Rattle.grib_packing.specs.Packing.{value_count}
 use Rattle.grib2_sections.specs.Frame.{Placed}
 use Rattle.grib2_message.specs.View.{octets_in_force, points_in_force, mask_in_force}
@@ -47,7 +47,7 @@ pub accepted_mask-requires-2 : goal.accepted_mask-requires-2
 accepted_mask-requires-2 c =
     let bitmap = c.in-Some.bitmap in
     let r = repeated c.args.octets.now c.requires.0 c.args.places.now c.requires.1 bitmap c.in-Some.is in
-    record { accepted = ap (λ (x : List ℕ). first_fault (bitmap_rows x bitmap.points bitmap.present None)) (c.section_from-earlier.ensures.octets ∙ r.octets_are) ∙ r.kept.rows }
+    record { accepted = ap (λ (x : List ℕ). first_fault (bitmap_rules x bitmap.points bitmap.present None)) (c.section_from-earlier.ensures.octets ∙ r.octets_are) ∙ r.kept.rules }
 
 pub returns : goal.returns
 returns c = λ before h.

@@ -1,11 +1,11 @@
 use Rattle.std.proofs.Common.{◌≡◌, List, ℕ, None, length, refl, sym, ap, ◌∙◌, arith}
-use Rattle.grib_base.specs.Rows.{first_fault_at, located}
+use Rattle.grib_base.specs.Rules.{first_fault_at, located}
 use Rattle.grib2_grids.specs.Grid.{grid_points}
-use Rattle.grib2_sections.specs.Identification.{identification_rows}
+use Rattle.grib2_sections.specs.Identification.{identification_rules}
 use Rattle.grib2_message.specs.Fields.{part_octets}
 use Rattle.grib2_message.specs.Summary.{summary_of}
 use Rattle.grib2_products.specs.Product.{product_template}
-use Rattle.grib2_products.specs.Opaque.{instant_shift}
+use Rattle.grib2_sections.specs.Instant.{instant_shift}
 use Rattle.grib2_products.proofs.Under.{product_parameter_length, product_instant_length}
 use Rattle.grib_packing.specs.Entries.{is_opaque_packing, packing_fault}
 use Rattle.grib_packing.proofs.Packings.{packing_passes}
@@ -17,7 +17,7 @@ pub with_identification-requires : goal.with_identification-requires
 with_identification-requires c =
     let start = c.part_in.result.start in
     record {
-      accepted = ap (λ (s : List ℕ). first_fault_at start (identification_rows s)) c.part_in.ensures.octets
+      accepted = ap (λ (s : List ℕ). first_fault_at start (identification_rules s)) c.part_in.ensures.octets
           ∙ ap (located start) c.part_in.ensures.passes.identification;
     }
 

@@ -1,7 +1,7 @@
 use Rattle.std.proofs.Common.{◌≡◌, ℕ, ◌-◌, ◌≤◌, ◌<◌, length, get_or, ap, sym, subst, ◌∙◌, arith, refl}
 use Rattle.std.proofs.lemmas.List.{get_or_read}
 use Rattle.grib_packing.specs.Groupings.{IsGrouping, digits}
-use Rattle.grib_packing.proofs.Bounds.{all_below}
+use Rattle.grib_codes.proofs.Bounds.{all_below}
 use Rattle.grib_bench.proofs.groups.groups_of.Goals as goal
 
 pub width-requires-clause-small : goal.width-requires-clause-small

@@ -1,6 +1,6 @@
 use Rattle.std.proofs.Common.{ℕ, ◌*◌, ◌^◌, List, length, ap, arith}
 use Rattle.grib_packing.specs.Packed.{group_parts}
-use Rattle.grib_packing.proofs.Bounds.{width_bits-few}
+use Rattle.grib_codes.proofs.Bounds.{width_bits-few}
 use Rattle.grib_bench.proofs.Room.{groups_most}
 use Rattle.grib_bench.proofs.groups.groups_written.Goals as goal
 

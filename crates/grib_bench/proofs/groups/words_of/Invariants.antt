@@ -1,6 +1,6 @@
 use Rattle.std.proofs.Common.{◌≡◌, length, All}
-use Rattle.grib_packing.specs.Span.{IsTold}
-use Rattle.grib_packing.specs.Words.{codes_of}
+use Rattle.grib_codes.specs.Span.{IsTold}
+use Rattle.grib_codes.specs.Words.{codes_of}
 use Rattle.grib_bench.proofs.groups.words_of.Given as goal
 
 abbrev pub invariant-loop-number : goal.invariant-loop-number

@@ -1,7 +1,7 @@
 use Rattle.grib_packing.specs.declared.column.Point.{Point}
 use Rattle.std.proofs.Common.{ℕ, ◌∷◌, [], ◌≡◌, Bool, List, map, get_or, cond, subst, arith}
 use Rattle.std.proofs.lemmas.List.{take_all}
-use Rattle.grib_mapped.specs.Mapped.{mapped}
+use Rattle.grib_coding.specs.Mapped.{mapped}
 use Rattle.grib_coding.specs.Coding.{greatest}
 use Rattle.grib_coding.specs.Numbers.{Code}
 use Rattle.grib_block_reading.specs.Kept.{IsKept}

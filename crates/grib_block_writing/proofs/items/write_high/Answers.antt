@@ -1,6 +1,6 @@
 use Rattle.std.proofs.Common.{List, ℕ, Bool, refl, arith}
 use Rattle.grib_coding.specs.Items.{sequence, all_bits}
-use Rattle.grib_block_writing.specs.Written.{highs}
+use Rattle.grib_coding.specs.Written.{highs}
 use Rattle.grib_block_writing.proofs.Adding.{each_next, each_room}
 use Rattle.grib_block_writing.proofs.items.write_high.Goals as goal
 

@@ -1,7 +1,7 @@
 use Rattle.std.proofs.Common.{List, ℕ, Bool, refl, arith, ◌∙◌}
 use Rattle.grib_bits.specs.Bits.{bits_of}
 use Rattle.grib_coding.specs.Items.{all_bits}
-use Rattle.grib_block_writing.specs.Written.{lows}
+use Rattle.grib_coding.specs.Written.{lows}
 use Rattle.grib_block_writing.proofs.Adding.{each_next, each_room, number_is, number_room, last_bits}
 use Rattle.grib_block_writing.proofs.items.write_low.Goals as goal
 

@@ -1,6 +1,7 @@
 use Rattle.std.proofs.Common.{◌*◌, drop}
 use Rattle.grib_coding.specs.Items.{sequence, all_bits}
-use Rattle.grib_block_writing.specs.Written.{Leaves, pair_numbers}
+use Rattle.grib_coding.specs.Written.{pair_numbers}
+use Rattle.grib_block_writing.specs.Steps.{Leaves}
 use Rattle.grib_block_writing.proofs.items.write_pairs.Given as goal
 
 abbrev pub invariant-loop-pair : goal.invariant-loop-pair

@@ -1,7 +1,7 @@
 use Rattle.std.proofs.Common.{drop}
 use Rattle.grib_bits.specs.Bits.{bits_of}
 use Rattle.grib_coding.specs.Items.{all_bits}
-use Rattle.grib_block_writing.specs.Written.{Leaves}
+use Rattle.grib_block_writing.specs.Steps.{Leaves}
 use Rattle.grib_block_writing.proofs.items.write_plain.Given as goal
 
 abbrev pub invariant-loop-code : goal.invariant-loop-code

@@ -1,6 +1,6 @@
 use Rattle.std.proofs.Common.{◌≡◌, ◌≤◌}
 use Rattle.grib_coding.specs.Items.{sequence}
-use Rattle.grib_block_writing.specs.Written.{Leaves}
+use Rattle.grib_block_writing.specs.Steps.{Leaves}
 use Rattle.grib_block_writing.proofs.items.write_sequence.Given as goal
 
 abbrev pub invariant-loop-left : goal.invariant-loop-left

@@ -1,7 +1,7 @@
 use Rattle.std.proofs.Common.{◌≡◌, ◌+◌, ◌-◌, ◌*◌, ◌^◌, ◌≤◌, drop, length}
 use Rattle.grib_coding.specs.Coding.{block_count}
-use Rattle.grib_block_writing.specs.Blocks.{blocks_of}
-use Rattle.grib_block_writing.specs.Written.{bits_from, written}
+use Rattle.grib_coding.specs.Blocks.{blocks_of}
+use Rattle.grib_coding.specs.Written.{bits_from, written}
 use Rattle.grib_block_writing.proofs.sizes.bits_of_blocks.Given as goal
 
 abbrev pub invariant-loop-block : goal.invariant-loop-block

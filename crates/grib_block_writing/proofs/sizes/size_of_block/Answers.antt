@@ -1,5 +1,5 @@
 use Rattle.std.proofs.Common.{sym, ◌∙◌, ap₂, ◌+◌, arith}
-use Rattle.grib_block_writing.specs.Blocks.{block_at}
+use Rattle.grib_block_writing.specs.Steps.{block_at}
 use Rattle.grib_block_writing.proofs.Zeros.{fits_block}
 use Rattle.grib_block_writing.proofs.Read.{length-block}
 use Rattle.grib_block_writing.proofs.Options.{skip_is}

@@ -1,6 +1,6 @@
 use Rattle.std.proofs.Common.{ℕ, Bool, ◌≡◌, ◌-◌, ◌+◌, ◌%◌, ◌<◌, ◌==◌, ◌||◌, length, refl, sym, ap, ap₂, ◌∙◌, arith}
 use Rattle.grib_coding.specs.Coding.{block_count}
-use Rattle.grib_choice.specs.Runs.{run_room}
+use Rattle.grib_coding.specs.Runs.{run_room}
 use Rattle.grib_block_writing.proofs.Lengths.{length-parts, length-run}
 use Rattle.grib_block_writing.proofs.Runs.{run_bits, block_bits, number_is}
 use Rattle.grib_block_writing.proofs.sizes.size_of_item.Goals as goal

@@ -1,6 +1,6 @@
 use Rattle.std.proofs.Common.{ℕ, List, Bool, ap}
 use Rattle.grib_coding.specs.Reading.{coded_of}
-use Rattle.grib_block_writing.specs.Written.{coded_bits, chosen_item}
+use Rattle.grib_coding.specs.Written.{coded_bits, chosen_item}
 use Rattle.grib_block_writing.proofs.Adding.{same_bits}
 use Rattle.grib_block_writing.proofs.Options.{room_as}
 use Rattle.grib_block_writing.proofs.writer.write_block_at.Goals as goal

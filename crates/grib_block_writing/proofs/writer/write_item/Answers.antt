@@ -1,6 +1,6 @@
 use Rattle.std.proofs.Common.{ℕ, Bool, ◌≡◌, ◌-◌, ◌%◌, ◌<◌, ◌==◌, ◌||◌, length, refl, sym, ap, ◌∙◌, arith}
 use Rattle.grib_coding.specs.Coding.{block_count}
-use Rattle.grib_choice.specs.Runs.{run_room}
+use Rattle.grib_coding.specs.Runs.{run_room}
 use Rattle.grib_block_writing.proofs.Heads.{first_room}
 use Rattle.grib_block_writing.proofs.Runs.{run_bits, block_bits, item_left, number_is}
 use Rattle.grib_block_writing.proofs.writer.write_item.Goals as goal

@@ -1,7 +1,7 @@
 use Rattle.std.proofs.Common.{◌≡◌, ◌≤◌, arith, length-append, length}
 use Rattle.grib_bits.specs.Bits.{bits_of}
 use Rattle.grib_bits.proofs.Numbers.{length-bits_of}
-use Rattle.grib_block_writing.specs.Written.{reference_bits}
+use Rattle.grib_coding.specs.Written.{reference_bits}
 use Rattle.grib_block_writing.proofs.Heads.{head_some, head_none, reference_room}
 use Rattle.grib_block_writing.proofs.writing.write_head.Goals as goal
 

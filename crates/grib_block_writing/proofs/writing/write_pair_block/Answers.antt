@@ -1,4 +1,4 @@
-use Rattle.grib_block_writing.specs.Written.{pair_numbers}
+use Rattle.grib_coding.specs.Written.{pair_numbers}
 use Rattle.grib_block_writing.proofs.Heads.{first_room, second_room, both_are, second_parts, one_fits}
 use Rattle.grib_block_writing.proofs.writing.write_pair_block.Goals as goal
 

@@ -1,6 +1,6 @@
 use Rattle.std.proofs.Common.{ℕ, ◌+◌, ◌<◌, ◌^◌, sym, subst}
 use Rattle.grib_coding.specs.Reading.{coded_of}
-use Rattle.grib_block_writing.specs.Written.{highs, lows}
+use Rattle.grib_coding.specs.Written.{highs, lows}
 use Rattle.grib_block_writing.proofs.Adding.{both}
 use Rattle.grib_block_writing.proofs.Heads.{first_room, second_room, both_are, split_parts, low_bits_few}
 use Rattle.grib_block_writing.proofs.writing.write_split_block.Goals as goal
@@ -9,7 +9,8 @@ use Rattle.grib_bits.specs.Bits.{bits_of}
 use Rattle.grib_coding.specs.Items.{sequence, all_bits, Split}
 use Rattle.grib_coding.specs.declared.coding.Coding.{Coding}
 use Rattle.std.proofs.Common.{Option}
-use Rattle.grib_block_writing.specs.Written.{coded_bits, head_bits}
+use Rattle.grib_coding.specs.Written.{coded_bits}
+use Rattle.grib_block_writing.specs.Steps.{head_bits}
 use Rattle.grib_coding.specs.Coding.{identifier_width}
 
 parts : (c : Coding) (k width : ℕ) (reference : Option ℕ) (kept : List ℕ) → width ≡ identifier_width c

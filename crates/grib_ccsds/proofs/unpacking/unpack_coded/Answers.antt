@@ -2,7 +2,7 @@ use Rattle.std.proofs.Common.{Bool, List, [], arith, ◌∙◌, subst}
 use Rattle.grib_base.proofs.Passing.{refused}
 use Rattle.grib_packing.specs.Entries.{entries_of}
 use Rattle.grib_packing.specs.Kept.{ArePoints}
-use Rattle.grib_simple.proofs.Accepted.{same_column}
+use Rattle.grib_simple_reading.proofs.Accepted.{same_column}
 use Rattle.grib_ccsds.proofs.unpacking.unpack_coded.Goals as goal
 
 pub returns-in_err-points-2 : goal.returns-in_err-points-2

@@ -2,8 +2,8 @@ use Rattle.std.proofs.Common.{◌≡◌, ◌≤◌, false, List, sym, ap₂, ◌
 use Rattle.std.specs.List.{list_any}
 use Rattle.grib_packing.specs.Misfits.{is_scaled_outside}
 use Rattle.grib_packing.specs.declared.column.Point.{Point}
-use Rattle.grib_complex.specs.declared.point_words.PointWords.{PointWords}
-use Rattle.grib_complex.specs.KeptWords.{AreWords}
+use Rattle.grib_codes.specs.declared.point_words.PointWords.{PointWords}
+use Rattle.grib_codes.specs.KeptWords.{AreWords}
 use Rattle.grib2_message.specs.Fields.{column_of}
 use Rattle.grib_compare.specs.Words.{by_words}
 use Rattle.grib_compare.proofs.ByWords.{greatest, words_tell}

@@ -1,8 +1,8 @@
 use Rattle.std.proofs.Common.{ℕ, ◌+◌, ◌*◌, ◌≤◌, List, length, Option, IsSomeAnd, sym, subst}
 use Rattle.grib_packing.specs.Groupings.{IsGrouping}
 use Rattle.grib_packing.specs.Packed.{group_parts}
-use Rattle.grib_complex.specs.FieldCodes.{codes_in}
-use Rattle.grib_complex.specs.declared.grouping.FieldCodes.{FieldCodes}
+use Rattle.grib_codes.specs.FieldCodes.{codes_in}
+use Rattle.grib_codes.specs.declared.field_codes.FieldCodes.{FieldCodes}
 use Rattle.grib_complex.proofs.below.are_too_many.Goals as goal
 
 pub returns-in-Each : goal.returns-in-Each

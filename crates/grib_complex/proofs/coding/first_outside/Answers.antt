@@ -1,5 +1,5 @@
 use Rattle.std.proofs.Common.{◌≡◌, ◌-◌, ◌+◌, ℕ, Bool, cond, Some, None, ap, sym, ◌∙◌, arith, subst}
-use Rattle.grib_base.specs.Rows.{first_place}
+use Rattle.grib_base.specs.Rules.{first_place}
 use Rattle.grib_packing.specs.Misfits.{Misfit, OutOfRange, is_scaled_outside, misfit_at, greatest_code, management_of}
 use Rattle.grib_complex.proofs.CodeByCode.{inside_more, outside_here, none_outside}
 use Rattle.grib_complex.proofs.coding.first_outside.Goals as goal

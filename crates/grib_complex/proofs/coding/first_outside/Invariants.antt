@@ -1,5 +1,5 @@
 use Rattle.std.proofs.Common.{◌≡◌, drop}
-use Rattle.grib_base.specs.Rows.{first_place}
+use Rattle.grib_base.specs.Rules.{first_place}
 use Rattle.grib_packing.specs.Misfits.{is_scaled_outside}
 use Rattle.grib_simple.specs.Survey.{place_after}
 use Rattle.grib_complex.proofs.coding.first_outside.Given as goal

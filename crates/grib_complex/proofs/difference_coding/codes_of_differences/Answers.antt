@@ -2,18 +2,18 @@ use Rattle.std.proofs.Common.{◌≡◌, ℕ, ◌-◌, ◌<◌, ◌≤◌, nat_a
 use Rattle.std.proofs.lemmas.Int.{ints}
 use Rattle.std.specs.List.{list_any}
 use Rattle.grib_base.specs.declared.code.Code.TheVariants.{Primary, Secondary}
-use Rattle.grib_packing.specs.Words.{codes_of}
+use Rattle.grib_codes.specs.Words.{codes_of}
 use Rattle.grib_packing.specs.declared.column.Point.TheVariants.{Missing, Missing2}
 use Rattle.grib_packing.specs.Differences.{difference_codes}
 use Rattle.grib_packing.specs.Misfits.{greatest_code, is_missing, is_missing2, scaled_numbers}
 use Rattle.grib_packing.specs.Packed.{placed_codes}
 use Rattle.grib_spatial.specs.Trail.{IsNear, IsTrail}
 use Rattle.grib_spatial.specs.declared.trail.Trail.{Trail}
-use Rattle.grib_complex.proofs.CodeByCode.{management-few, reserved_1, reserved_2}
+use Rattle.grib_codes.proofs.Reserved.{management-few, reserved_1, reserved_2}
 use Rattle.grib_complex.proofs.Differing.{length-codes}
 use Rattle.grib_complex.proofs.DifferencesCoded.{Forward, forward_number, forward_mark, any_here, out_of_range, none_outside, placed_whole}
 use Rattle.grib_complex.proofs.PointByPoint.{number_is, number_left, number_small, code_there}
-use Rattle.grib_complex.proofs.Worded.{any_at, whole_more}
+use Rattle.grib_codes.proofs.Worded.{any_at, whole_more}
 use Rattle.grib_complex.proofs.difference_coding.codes_of_differences.Goals as goal
 use Rattle.grib_complex.proofs.difference_coding.codes_of_differences.Goals.{in-Scaled+else-code-greatest, in-Missing, in-Missing2}
 

@@ -1,6 +1,6 @@
 use Rattle.std.proofs.Common.{◌≡◌, ◌++◌, nat_lt, drop}
 use Rattle.std.specs.List.{list_any}
-use Rattle.grib_packing.specs.Words.{codes_of}
+use Rattle.grib_codes.specs.Words.{codes_of}
 use Rattle.grib_packing.specs.Differences.{difference_codes}
 use Rattle.grib_packing.specs.Misfits.{scaled_numbers}
 use Rattle.grib_packing.specs.Packed.{placed_codes}

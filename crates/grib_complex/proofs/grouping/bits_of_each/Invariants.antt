@@ -1,7 +1,7 @@
 use Rattle.std.proofs.Common.{◌≡◌, ℕ, ◌+◌, ◌*◌, ◌≤◌, length, map, drop, All}
 use Rattle.grib_packing.specs.Groupings.{IsGrouping, joined, runs}
 use Rattle.grib_packing.specs.Packed.{group_fields}
-use Rattle.grib_packing.specs.Span.{IsBelow}
+use Rattle.grib_codes.specs.Span.{IsBelow}
 use Rattle.grib_groups.specs.Encoding.{AreMeasures}
 use Rattle.grib_complex.proofs.grouping.bits_of_each.Given as goal
 

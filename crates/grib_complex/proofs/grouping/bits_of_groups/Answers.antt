@@ -4,7 +4,7 @@ use Rattle.grib_base.specs.declared.code.Code.{Code}
 use Rattle.grib_packing.specs.Groupings.{IsGrouping, joined, runs}
 use Rattle.grib_packing.specs.Packed.{group_fields}
 use Rattle.grib_groups.proofs.Same.{no_numbers}
-use Rattle.grib_complex.specs.FieldCodes.{codes_in}
+use Rattle.grib_codes.specs.FieldCodes.{codes_in}
 use Rattle.grib_complex.proofs.grouping.bits_of_groups.Goals as goal
 
 pub returns-in-Same-clause-is : goal.returns-in-Same-clause-is

@@ -1,8 +1,8 @@
 use Rattle.std.proofs.Common.{◌≡◌, ℕ, List, All, ap, sym, ◌∙◌, arith, subst}
 use Rattle.grib_base.specs.declared.code.Code.{Code}
 use Rattle.grib_packing.specs.Groupings.{digits, width_of, width_bits_of, reference_bits_of}
-use Rattle.grib_packing.specs.Span.{IsBelow}
-use Rattle.grib_packing.proofs.Bounds.{all_below, width_bits-few}
+use Rattle.grib_codes.specs.Span.{IsBelow}
+use Rattle.grib_codes.proofs.Bounds.{all_below, width_bits-few}
 use Rattle.grib_complex.proofs.grouping.costs_of.Goals as goal
 
 pub width-requires-clause-small : goal.width-requires-clause-small

@@ -2,7 +2,7 @@ use Rattle.std.proofs.Common.{◌≡◌, List, IfOk, replicate, sym, ap, ◌∙�
 use Rattle.grib_base.specs.declared.code.Code.{Code}
 use Rattle.grib_packing.specs.Groupings.{Chosen, header_bits, runs, width_of}
 use Rattle.grib_groups.specs.Encoding.{AreMeasures}
-use Rattle.grib_complex.specs.FieldCodes.{codes_in}
+use Rattle.grib_codes.specs.FieldCodes.{codes_in}
 use Rattle.grib_complex.proofs.grouping.grouping_of.Goals as goal
 
 pub returns-in-Each-clause-chosen : goal.returns-in-Each-clause-chosen

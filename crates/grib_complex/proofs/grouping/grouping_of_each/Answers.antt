@@ -1,8 +1,8 @@
 use Rattle.std.proofs.Common.{◌≡◌, ℕ, ◌+◌, ◌-◌, ◌≤◌, ◌<◌, length, get_or, All, ap, ap₂, sym, ◌∙◌, arith, subst, subst₂}
 use Rattle.std.proofs.lemmas.List.{get_or_read}
 use Rattle.grib_packing.specs.Groupings.{Chosen, header_bits, length_bits, width_of}
-use Rattle.grib_packing.specs.Span.{IsBelow}
-use Rattle.grib_packing.proofs.Bounds.{all_below}
+use Rattle.grib_codes.specs.Span.{IsBelow}
+use Rattle.grib_codes.proofs.Bounds.{all_below}
 use Rattle.grib_complex.proofs.GroupByGroup.{few_groups, some_groups}
 use Rattle.grib_complex.proofs.grouping.grouping_of_each.Goals as goal
 

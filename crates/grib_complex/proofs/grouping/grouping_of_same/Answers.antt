@@ -2,7 +2,7 @@ use Rattle.std.proofs.Common.{◌≡◌, ℕ, ◌-◌, ◌<◌, ◌≤◌, lengt
 use Rattle.std.proofs.lemmas.List.{get_or_read, length-replicate}
 use Rattle.std.proofs.lemmas.List.Elements.{All-replicate}
 use Rattle.grib_packing.specs.Groupings.{header_bits, width_of, reference_bits_of}
-use Rattle.grib_packing.specs.Span.{IsTold}
+use Rattle.grib_codes.specs.Span.{IsTold}
 use Rattle.grib_groups.proofs.Same.{width_bits_same}
 use Rattle.grib_complex.proofs.AllTheSame.{span_of_all, takes_none}
 use Rattle.grib_complex.proofs.GroupByGroup.{some_groups}

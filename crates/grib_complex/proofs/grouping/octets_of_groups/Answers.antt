@@ -1,11 +1,11 @@
 use Rattle.std.proofs.Common.{◌≡◌, ℕ, ◌+◌, ◌*◌, ◌≤◌, length, map, All, sym, subst, subst₂, arith}
 use Rattle.grib_packing.specs.Groupings.{joined, runs}
 use Rattle.grib_packing.specs.Packed.{group_fields}
-use Rattle.grib_packing.specs.Span.{IsBelow}
-use Rattle.grib_packing.proofs.Bounds.{all_below}
+use Rattle.grib_codes.specs.Span.{IsBelow}
+use Rattle.grib_codes.proofs.Bounds.{all_below}
 use Rattle.grib_groups.specs.Encoding.{AreMeasures}
 use Rattle.grib_complex.proofs.GroupByGroup.{groups_few, references_few, widths_few, parts_octets}
-use Rattle.grib_complex.specs.FieldCodes.{codes_in}
+use Rattle.grib_codes.specs.FieldCodes.{codes_in}
 use Rattle.grib_complex.proofs.grouping.octets_of_groups.Goals as goal
 
 pub bits_of_groups-bits-requires-clause-codes : goal.bits_of_groups-bits-requires-clause-codes

@@ -5,7 +5,7 @@ use Rattle.grib_packing.specs.Misfits.{ToComplex, management_of}
 use Rattle.grib_packing.specs.Packed.{group_parts, target_codes}
 use Rattle.grib_packing.specs.declared.column.Column.{Column}
 use Rattle.grib_packing.specs.Below.{IsNoFewer}
-use Rattle.grib_complex.specs.FieldCodes.{codes_in}
+use Rattle.grib_codes.specs.FieldCodes.{codes_in}
 use Rattle.grib_complex.proofs.AtLeast.{complex_at_least}
 use Rattle.grib_complex.proofs.packed.pack_codes.Goals as goal
 

@@ -2,7 +2,7 @@ use Rattle.std.proofs.Common.{◌≡◌, List, Some, length, ap, ◌∙◌, arit
 use Rattle.std.proofs.lemmas.List.{length-map}
 use Rattle.grib_packing.specs.declared.column.Point.{Point}
 use Rattle.grib_packing.specs.Misfits.{OutOfRange, ToComplex, first_misfit}
-use Rattle.grib_complex.specs.KeptWords.{word_for}
+use Rattle.grib_codes.specs.KeptWords.{word_for}
 use Rattle.grib_complex.proofs.packed.pack_complex.Goals as goal
 
 pub returns-in_default : goal.returns-in_default

@@ -3,10 +3,10 @@ use Rattle.grib_bits.specs.Bits.{bits}
 use Rattle.grib_packing.specs.Packed.{HasContents, group_parts}
 use Rattle.grib_packing.proofs.Sections.{head_of}
 use Rattle.grib_groups.specs.Encoding.{LaysOut}
-use Rattle.grib_complex.proofs.CodeByCode.{length-codes}
-use Rattle.grib_simple.proofs.InPlace.{same_numbers}
+use Rattle.grib_codes.proofs.Reserved.{length-codes}
+use Rattle.grib_packing.proofs.Sections.{same_numbers}
 use Rattle.grib_complex.proofs.Wholly.{contents_whole, grouped_by, is_complex}
-use Rattle.grib_complex.specs.FieldCodes.{codes_in}
+use Rattle.grib_codes.specs.FieldCodes.{codes_in}
 use Rattle.grib_complex.proofs.packed.pack_plainly.Goals as goal
 
 pub returns : goal.returns

@@ -9,7 +9,7 @@ use Rattle.grib_spatial.specs.Undoing.{read_with}
 use Rattle.grib_complex.specs.Constant.{DifferencesOf}
 use Rattle.grib_packing.specs.declared.column.Column.{Column}
 use Rattle.grib_packing.specs.Below.{IsNoFewer}
-use Rattle.grib_complex.specs.FieldCodes.{codes_in}
+use Rattle.grib_codes.specs.FieldCodes.{codes_in}
 use Rattle.grib_complex.proofs.AtLeast.{spatial_at_least}
 use Rattle.grib_complex.proofs.DifferencesTold.{codes_as_long, codes_told}
 use Rattle.grib_complex.proofs.packed.pack_spatial.Goals as goal

@@ -10,7 +10,7 @@ use Rattle.grib_spatial.specs.Undoing.{read_with}
 use Rattle.grib_complex.proofs.Wholly.{contents_whole, grouped_by}
 use Rattle.grib_complex.proofs.DifferencesTold.{codes_as_long, codes_told}
 use Rattle.grib_complex.proofs.Differing.{length-descriptors, is_spatial}
-use Rattle.grib_complex.specs.FieldCodes.{codes_in}
+use Rattle.grib_codes.specs.FieldCodes.{codes_in}
 use Rattle.grib_complex.proofs.packed.pack_spatially.Goals as goal
 
 few_octets : (order size o s : ℕ) → o ≡ order → s ≡ size → size ≤ 4 → (order ≡ 1) ⊎ (order ≡ 2) → (o + 1) * s ≤ 12

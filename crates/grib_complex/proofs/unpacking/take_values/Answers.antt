@@ -2,12 +2,12 @@ use Rattle.std.proofs.Common.{◌≡◌, ◌-◌, ◌++◌, ℕ, List, [], lengt
 use Rattle.std.proofs.lemmas.List.{take_rest, length-take, length-drop}
 use Rattle.grib_base.specs.declared.fault.ReadFault.TheVariants.{Memory}
 use Rattle.grib_base.specs.Faults.{IsReadFault}
-use Rattle.grib_base.specs.Rows.{located}
+use Rattle.grib_base.specs.Rules.{located}
 use Rattle.grib_base.proofs.Passing.{carried, refused}
 use Rattle.grib_bits.proofs.OctetNumbers.{AreOctets-drop, AreOctets-known}
 use Rattle.grib_packing.specs.Entries.{data_fault}
-use Rattle.grib_complex.specs.Feeding.{StateAgrees}
-use Rattle.grib_complex.specs.declared.stages.ComplexReading.{ComplexReading}
+use Rattle.grib_complex_reading.specs.Feeding.{StateAgrees}
+use Rattle.grib_complex_reading.specs.declared.stages.ComplexReading.{ComplexReading}
 use Rattle.grib_complex.proofs.unpacking.take_values.Goals as goal
 
 -- all octets after the fifth came

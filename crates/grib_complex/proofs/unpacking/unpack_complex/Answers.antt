@@ -2,7 +2,7 @@ use Rattle.std.proofs.Common.{Bool, List, [], arith, ◌∙◌, subst}
 use Rattle.grib_base.proofs.Passing.{carried}
 use Rattle.grib_packing.specs.Entries.{entries_of}
 use Rattle.grib_packing.specs.Kept.{ArePoints}
-use Rattle.grib_simple.proofs.Accepted.{same_column}
+use Rattle.grib_simple_reading.proofs.Accepted.{same_column}
 use Rattle.grib_complex.proofs.unpacking.unpack_complex.Goals as goal
 
 pub returns : goal.returns

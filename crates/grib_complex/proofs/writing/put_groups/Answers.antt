@@ -3,7 +3,7 @@ use Rattle.std.proofs.lemmas.List.{length-replicate}
 use Rattle.grib_base.specs.declared.code.Code.{Code}
 use Rattle.grib_packing.specs.Groupings.{runs}
 use Rattle.grib_packing.specs.Packed.{group_parts}
-use Rattle.grib_complex.specs.FieldCodes.{codes_in}
+use Rattle.grib_codes.specs.FieldCodes.{codes_in}
 use Rattle.grib_groups.specs.Encoding.{AreMeasures, LaysOut}
 use Rattle.grib_complex.proofs.writing.put_groups.Goals as goal
 

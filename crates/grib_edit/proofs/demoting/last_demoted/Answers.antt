@@ -1,9 +1,11 @@
 use Rattle.std.proofs.Common.{◌≡◌, None, MatchResult, subst, arith}
+use Rattle.grib_base.proofs.Firsts.{none_more}
+use Rattle.grib_base.specs.Rules.{first_among}
 use Rattle.grib2_message.specs.Fields.{field_count}
 use Rattle.grib_demote.specs.Demoted.{demoted}
 use Rattle.grib_edit.specs.Unchanged.{IsKept}
-use Rattle.grib_edit.specs.Demoting.{field_cause, first_cause, demoted_cause}
-use Rattle.grib_edit.proofs.Demoted.{cause_none, cause_first, last_decides, kept_carried}
+use Rattle.grib_edit.specs.Demoting.{field_cause, demoted_cause}
+use Rattle.grib_edit.proofs.Demoted.{cause_first, last_decides, kept_carried}
 use Rattle.grib_edit.proofs.demoting.last_demoted.Goals as goal
 
 pub returns-in_err-demote_field : goal.returns-in_err-demote_field
@@ -20,7 +22,7 @@ returns-in_err-demote_field c =
 pub loop-index-preserved : goal.loop-index-preserved
 loop-index-preserved c =
     let cause = field_cause c.args.demoting.now.table.now c.args.demoting.now.matching c.args.demoting.now.keep_local c.args.demoting.now.any_earth c.args.message.now in
-    record { none = cause_none cause c.loop-index.index _ (omega arith) c.loop-index.invariant.none c.in_ok-demote_field.ensures.0 }
+    record { none = none_more cause 1 c.loop-index.index _ (omega arith) c.loop-index.invariant.none c.in_ok-demote_field.ensures.0 }
 
 pub returns : goal.returns
 returns c =
@@ -31,7 +33,7 @@ returns c =
     let m = c.args.message.now in
     let cause = field_cause table matching keep any m in
     subst
-    (λ n. MatchResult c.demote_field-2.result (λ octets. (first_cause cause n 1 ≡ None) × (octets.items ≡ demoted table matching keep m n)) (IsKept (first_cause cause n 1)))
+    (λ n. MatchResult c.demote_field-2.result (λ octets. (first_among cause n 1 ≡ None) × (octets.items ≡ demoted table matching keep m n)) (IsKept (first_among cause n 1)))
     c.fields-count.ensures.count
     (last_decides (λ octets. octets.items ≡ demoted table matching keep m c.fields-count.result) cause c.loop-index.index c.fields-count.result c.demote_field-2.result
     (omega (arith, c.fields-count.ensures.some)) c.loop-index.invariant.none c.demote_field-2.ensures)

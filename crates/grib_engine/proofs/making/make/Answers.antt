@@ -2,7 +2,7 @@ use Rattle.std.proofs.Common.{◌≡◌, None, sym, subst}
 use Rattle.grib_synthetic.specs.Made.{made}
 use Rattle.grib_synthetic.specs.Points.{made_column}
 use Rattle.grib_packing.specs.Misfits.{ToSimple}
-use Rattle.grib_repack.specs.Faults.{target_of}
+use Rattle.grib_packing.specs.Targets.{target_of}
 use Rattle.grib_repack.specs.Repacked.{repacked, repack_misfit}
 use Rattle.grib_command.proofs.Answers.{target_stands}
 use Rattle.grib_engine.proofs.Made.{nothing_lost, stays_same}

@@ -3,7 +3,7 @@ use Rattle.grib_stream.specs.declared.outcome.Outcome.TheVariants.{Memory}
 use Rattle.grib_command.specs.Outcomes.{note_of}
 use Rattle.grib_run_spec.specs.Serving.{Serves}
 use Rattle.grib_run_spec.specs.Tasks.{Makes, writing, made_answer}
-use Rattle.grib_repack.specs.Faults.{target_of}
+use Rattle.grib_packing.specs.Targets.{target_of}
 use Rattle.grib_repack.specs.Repacked.{repacked}
 use Rattle.grib_synthetic.specs.Made.{made}
 use Rattle.grib_engine.specs.Beside.{beside}

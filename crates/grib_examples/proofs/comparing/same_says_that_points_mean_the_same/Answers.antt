@@ -1,6 +1,6 @@
 use Rattle.std.proofs.Common.{◌≡◌, ◌==◌, ℕ, Bool, true, false, Option, Some, None, List, length, refl, ap, ◌∙◌}
 use Rattle.std.proofs.lemmas.Bool.{eq-eqb, eqb-true}
-use Rattle.grib_base.specs.Rows.{choose}
+use Rattle.grib_base.specs.Rules.{choose}
 use Rattle.grib_dyadic.specs.Meaning.{Meant, SameMeaning}
 use Rattle.grib_same.specs.Sameness.{first_difference}
 use Rattle.grib_same.proofs.Differences.{none_means, means_none}

@@ -3,17 +3,17 @@ use Rattle.std.proofs.lemmas.List.{take_rest, length-take, length-drop, map-id}
 use Rattle.grib_bits.specs.Bits.{bits}
 use Rattle.grib_base.specs.declared.code.Code.{Code}
 use Rattle.grib_base.specs.declared.fault.Fault.{Fault}
-use Rattle.grib_base.specs.Rows.{first_fault_at}
+use Rattle.grib_base.specs.Rules.{first_fault_at}
 use Rattle.grib_packing.specs.declared.group.Group.{Group}
 use Rattle.grib_packing.specs.declared.layout.Layout.{Layout}
-use Rattle.grib_packing.specs.Groups.{codes_from, grouped, group_rows, list_octets, packed_bits, references, widths, lengths}
-use Rattle.grib_groups.specs.declared.lists.Lists.{Lists}
-use Rattle.grib_groups.specs.declared.table.Table.{Table}
-use Rattle.grib_groups.specs.Lists.{CodesTook, ListsAre, lists_fault}
-use Rattle.grib_groups.specs.Table.{groups_in}
-use Rattle.grib_groups.specs.Taking.{values}
-use Rattle.grib_groups.proofs.Faults.{TableRead, table_read}
-use Rattle.grib_groups.proofs.Taken.{length-codes_from}
+use Rattle.grib_packing.specs.Groups.{codes_from, grouped, group_rules, list_octets, packed_bits, references, widths, lengths}
+use Rattle.grib_group_reading.specs.declared.lists.Lists.{Lists}
+use Rattle.grib_group_reading.specs.declared.table.Table.{Table}
+use Rattle.grib_group_reading.specs.Lists.{ListsAre, lists_fault}
+use Rattle.grib_group_reading.specs.Table.{groups_in}
+use Rattle.grib_group_reading.specs.Taking.{values}
+use Rattle.grib_group_reading.proofs.Faults.{TableRead, table_read}
+use Rattle.grib_group_reading.proofs.Taken.{length-codes_from}
 use Rattle.grib_groups.proofs.decoding.decode_groups.Goals as goal
 
 -- the lists of a section, and their refusal
@@ -23,7 +23,7 @@ module _ (layout : Layout) (s7 : List ℕ) (start skip l count : ℕ) (lists : L
   lists_told : let octets = drop (5 + skip) s7 in ListsAre layout count lists (references layout octets) (widths layout octets) (lengths layout octets)
   lists_told = subst (λ (os : List ℕ). ListsAre layout count lists (references layout os) (widths layout os) (lengths layout os)) (take_rest s7 (5 + skip)) are
 
-  fault_told : fault ≡ first_fault_at start (group_rows layout s7 skip count)
+  fault_told : fault ≡ first_fault_at start (group_rules layout s7 skip count)
   fault_told =
       let octets = drop (5 + skip) s7 in
       let rs = references layout octets in

@@ -1,8 +1,8 @@
 use Rattle.std.proofs.Common.{◌≡◌, ℕ, ◌-◌, ◌++◌, List, All, map, sym, ap, ◌∙◌, arith, subst}
 use Rattle.grib_packing.specs.Groupings.{runs, length_bits, width_of}
 use Rattle.grib_packing.specs.Packed.{fields, reference_of}
-use Rattle.grib_packing.specs.Span.{IsTold}
-use Rattle.grib_packing.proofs.Bounds.{references_fit, reference_bits-few, widths_fit, width_bits-few}
+use Rattle.grib_codes.specs.Span.{IsTold}
+use Rattle.grib_codes.proofs.Bounds.{references_fit, reference_bits-few, widths_fit, width_bits-few}
 use Rattle.grib_base.specs.declared.code.Code.{Code}
 use Rattle.grib_packing.specs.declared.layout.Layout.{Layout}
 use Rattle.grib_packing.proofs.Left.{even_after}

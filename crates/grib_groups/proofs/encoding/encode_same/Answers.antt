@@ -4,8 +4,8 @@ use Rattle.std.proofs.lemmas.List.{append-nil, length-append, length-replicate, 
 use Rattle.grib_base.specs.declared.code.Code.{Code}
 use Rattle.grib_packing.specs.Groupings.{IsGrouping, runs, joined, length_bits, width_of, reference_bits_of}
 use Rattle.grib_packing.specs.Packed.{fields, padded, group_fields, group_parts, reference_of}
-use Rattle.grib_packing.specs.Span.{IsTold}
-use Rattle.grib_packing.proofs.Bounds.{references_fit, reference_bits-few}
+use Rattle.grib_codes.specs.Span.{IsTold}
+use Rattle.grib_codes.proofs.Bounds.{references_fit, reference_bits-few}
 use Rattle.grib_packing.proofs.Left.{even_after}
 use Rattle.grib_groups.proofs.Parts.{parts-are}
 use Rattle.grib_groups.proofs.Same.{references_same, no_numbers, no_bits, width_bits_same, reference_same}

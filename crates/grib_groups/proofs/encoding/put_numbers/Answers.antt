@@ -1,6 +1,6 @@
 use Rattle.std.proofs.Common.{◌++◌, arith, length, get_or, sym, ap, ◌∙◌}
 use Rattle.grib_packing.specs.Packed.{group_fields}
-use Rattle.grib_packing.proofs.Bounds.{all_below}
+use Rattle.grib_codes.proofs.Bounds.{all_below}
 use Rattle.grib_packing.proofs.Left.{left_padded}
 use Rattle.grib_groups.proofs.Measures.{known-here, known-next, measured-is, narrow}
 use Rattle.grib_groups.proofs.Packable.{packable}

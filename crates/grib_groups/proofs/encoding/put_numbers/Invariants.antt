@@ -1,7 +1,7 @@
 use Rattle.std.proofs.Common.{length, drop, map, All}
 use Rattle.grib_packing.specs.Groupings.{IsGrouping, runs, joined}
 use Rattle.grib_packing.specs.Packed.{group_fields}
-use Rattle.grib_packing.specs.Span.{IsTold}
+use Rattle.grib_codes.specs.Span.{IsTold}
 use Rattle.grib_packing.proofs.Left.{Left}
 use Rattle.grib_groups.specs.Encoding.{AreMeasures}
 use Rattle.grib_groups.proofs.encoding.put_numbers.Given as goal

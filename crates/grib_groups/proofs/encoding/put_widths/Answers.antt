@@ -1,6 +1,6 @@
 use Rattle.std.proofs.Common.{◌^◌, ◌<◌, ◌∙◌, arith, length, get_or}
 use Rattle.grib_packing.specs.Groupings.{width_of}
-use Rattle.grib_packing.proofs.Bounds.{all_below}
+use Rattle.grib_codes.proofs.Bounds.{all_below}
 use Rattle.grib_packing.proofs.Left.{left_padded}
 use Rattle.grib_groups.proofs.Measures.{known-here, known-next}
 use Rattle.grib_groups.proofs.Parts.{told_run, told_after, no_fields, grouping-within, grouping-next, fits-next, fits-here, field_more, field_room}

@@ -1,7 +1,7 @@
 use Rattle.std.proofs.Common.{◌^◌, ◌<◌, length, drop, map, All}
 use Rattle.grib_packing.specs.Groupings.{IsGrouping, runs, width_of}
 use Rattle.grib_packing.specs.Packed.{fields}
-use Rattle.grib_packing.specs.Span.{IsTold}
+use Rattle.grib_codes.specs.Span.{IsTold}
 use Rattle.grib_packing.proofs.Left.{Left}
 use Rattle.grib_groups.specs.Encoding.{AreMeasures}
 use Rattle.grib_groups.proofs.encoding.put_widths.Given as goal

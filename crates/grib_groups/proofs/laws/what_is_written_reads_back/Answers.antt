@@ -6,19 +6,19 @@ use Rattle.grib_bits.specs.Plain.{plain}
 use Rattle.grib_bits.specs.Written.{padding}
 use Rattle.grib_bits.proofs.OctetBits.{length-bits}
 use Rattle.grib_base.specs.declared.code.Code.{Code}
-use Rattle.grib_base.specs.Rows.{first_place}
+use Rattle.grib_base.specs.Rules.{first_place}
 use Rattle.grib_packing.specs.declared.layout.Layout.{Layout}
 use Rattle.grib_packing.specs.Groups.{coded_lengths, codes_from, grouped, groups, groups_from, lengths, list_octets, packed_bits, reference_octets, references, width_octets, length_octets, widths}
 use Rattle.grib_packing.specs.Groupings.{digits, greatest, joined, present_codes, runs, width_of}
 use Rattle.grib_packing.specs.Packed.{fields, group_fields, group_parts, padded, reference_of}
-use Rattle.grib_packing.proofs.Spans.{small_run}
+use Rattle.grib_codes.proofs.Spans.{small_run}
 use Rattle.grib_packing.proofs.Digits.{digits-lt}
-use Rattle.grib_packing.proofs.Bounds.{all_below, references_fit, widths_few, widths_fit}
+use Rattle.grib_codes.proofs.Bounds.{all_below, references_fit, widths_few, widths_fit}
 use Rattle.grib_packing.proofs.Left.{padded-more}
 use Rattle.grib_packing.proofs.Fields.{padded_octets, plain-padded, segment}
 use Rattle.grib_groups.specs.Encoding.{LaysOut}
 use Rattle.grib_groups.proofs.Parts.{parts-are}
-use Rattle.grib_groups.proofs.Back.{bits_back, coded_back, coded_lt, codes_back, first_part, length-runs, no_row, no_rows, no_wide, plus_none, second_part, third_part}
+use Rattle.grib_groups.proofs.Back.{bits_back, coded_back, coded_lt, codes_back, first_part, length-runs, no_rule, no_rules, no_wide, plus_none, second_part, third_part}
 use Rattle.grib_groups.proofs.laws.what_is_written_reads_back.Goals as goal
 
 module _ (layout : Layout) (codes : List Code) (ns : List ℕ) (octets : List ℕ) (after : List Bool) (laid : LaysOut layout codes ns)
@@ -144,11 +144,11 @@ returns c layout codes ns s7 skip after laid within stands =
     let none : too_wide ≡ 0 = ap (first_place (λ w. nat_lt 32 w)) read ∙ no_wide _ narrow in
     let enough = long_octets layout codes ns octets after laid stands in
     record {
-      list_rows_pass = no_row (nat_lt (length s7) (5 + skip + list_octets layout)) _ (le-ltb (length s7) (5 + skip + list_octets layout) (omega (arith, enough, long)));
+      list_rules_pass = no_rule (nat_lt (length s7) (5 + skip + list_octets layout)) _ (le-ltb (length s7) (5 + skip + list_octets layout) (omega (arith, enough, long)));
       widths_fit = subst (All (λ w. w ≤ 32)) (sym read) narrow;
       total = total;
-      group_rows_pass =
-          no_rows _ _ _ _ _ _ (le-ltb 0 too_wide (omega (arith, none))) (ap not (eq-eqb (sum (lengths layout octets)) (length codes) total))
+      group_rules_pass =
+          no_rules _ _ _ _ _ _ (le-ltb 0 too_wide (omega (arith, none))) (ap not (eq-eqb (sum (lengths layout octets)) (length codes) total))
           (le-ltb (8 * length s7) (8 * (5 + skip + list_octets layout) + packed_bits (groups layout octets)) (omega (arith, enough, long, in_bits layout codes ns octets after laid stands)));
       codes_stand = in_codes layout codes ns octets after laid stands;
     }

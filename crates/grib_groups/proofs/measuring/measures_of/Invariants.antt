@@ -1,6 +1,6 @@
 use Rattle.std.proofs.Common.{◌≡◌, List, ◌++◌, length, drop, All}
 use Rattle.grib_packing.specs.Groupings.{IsGrouping, runs}
-use Rattle.grib_packing.specs.Span.{IsBelow}
+use Rattle.grib_codes.specs.Span.{IsBelow}
 use Rattle.grib_groups.specs.declared.measuring.Measure.{Measure}
 use Rattle.grib_groups.specs.Encoding.{AreMeasures}
 use Rattle.grib_groups.proofs.measuring.measures_of.Given as goal

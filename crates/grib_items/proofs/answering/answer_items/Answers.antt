@@ -5,9 +5,10 @@ use Rattle.grib_stream.specs.declared.outcome.Outcome.TheVariants.{ShelfFault}
 use Rattle.grib_stream.specs.Acts.{world}
 use Rattle.grib_stream.specs.Faults.{faults}
 use Rattle.grib_stream.specs.Soon.{RefusesSoon}
-use Rattle.grib_stream.proofs.Exits.{cut_broken}
+use Rattle.grib_stream.proofs.ByKind.{cut_broken}
+use Rattle.grib_stream.specs.Outcomes.{is_whole}
 use Rattle.grib_items.specs.Deeds.{deeds, outside}
-use Rattle.grib_items.specs.Laws.{outcome_of, is_whole}
+use Rattle.grib_items.specs.Laws.{outcome_of}
 use Rattle.grib_items.specs.Run.{Runs, CountsOne}
 use Rattle.grib_items.specs.Steps.{plan_of}
 use Rattle.grib_items.proofs.Effects.{done_still, front_still, octets_none, passed_whole, passed_front}

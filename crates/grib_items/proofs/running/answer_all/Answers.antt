@@ -5,9 +5,10 @@ use Rattle.grib_stream.specs.Stream.{begins}
 use Rattle.grib_stream.specs.Acts.{world}
 use Rattle.grib_stream.specs.Faults.{faults, OneCounted}
 use Rattle.grib_stream.specs.Soon.{RefusesSoon}
+use Rattle.grib_stream.specs.Outcomes.{is_whole}
 use Rattle.grib_items.specs.Answer.{totals_by, counts_of}
 use Rattle.grib_items.specs.Deeds.{no_deeds, outside}
-use Rattle.grib_items.specs.Laws.{nothing, outcome_of, is_whole}
+use Rattle.grib_items.specs.Laws.{nothing, outcome_of}
 use Rattle.grib_items.specs.Reading.{goes_on}
 use Rattle.grib_items.specs.Run.{Reaches, CountsOne, IsOver}
 use Rattle.grib_items.specs.Steps.{plan_of}

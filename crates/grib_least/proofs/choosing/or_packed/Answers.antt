@@ -1,7 +1,7 @@
 use Rattle.std.proofs.Common.{◌+◌, ◌<◌, min, ℕ, List, All, ap, ◌∙◌, subst}
 use Rattle.grib_packing.specs.Written.{MayBePacked}
 use Rattle.grib2_message.specs.Fields.{column_of}
-use Rattle.grib_repack.specs.Faults.{target_of}
+use Rattle.grib_packing.specs.Targets.{target_of}
 use Rattle.grib_repack.specs.Repacked.{kind_of}
 use Rattle.grib_repack.proofs.Columns.{has_words, kind_small}
 use Rattle.grib_least.proofs.Tried.{packed_short, with_packed, with_many}

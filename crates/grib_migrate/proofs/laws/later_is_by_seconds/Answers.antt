@@ -1,6 +1,6 @@
 use Rattle.std.proofs.Common.{◌*◌}
 use Rattle.grib1_sections.specs.Keys.{key_in}
-use Rattle.grib1_sections.specs.declared.key.Key1.TheVariants.{P2}
+use Rattle.grib_keys.specs.declared.key1.Key1.TheVariants.{P2}
 use Rattle.grib_migrate.specs.Dates.{reference_time}
 use Rattle.grib_migrate.proofs.Seconds.{later_by_seconds, end_by_seconds}
 use Rattle.grib_migrate.proofs.laws.later_is_by_seconds.Goals as goal

@@ -1,21 +1,17 @@
-use Rattle.std.proofs.Common.{◌≢◌, zero, suc, ◌+◌, ◌<◌, true, ℤ, pos, negsuc, nat_abs, to_z-of_z, refl, sym, ap, ◌∙◌, arith}
+use Rattle.std.proofs.Common.{zero, ◌+◌, true, to_z-of_z, sym, ap, ◌∙◌, arith}
 use Rattle.std.specs.Int.{is_negative}
+use Rattle.grib_bits.proofs.Arithmetic.{nat_abs-some}
 use Rattle.grib_nearest.specs.Formats.{format_of}
 use Rattle.grib_nearest.specs.Numbers.{number_of}
 use Rattle.grib_nearest.specs.Values.{signed_word}
 use Rattle.grib_nearest.proofs.Words.{below_some, zero_word, minus_word, plus_word}
 use Rattle.grib_nearest.proofs.exact.wide_word.Goals as goal
 
-some_abs : (z : ℤ) → z ≢ pos 0 → 0 < nat_abs z
-some_abs (pos zero) other = absurd (other refl)
-some_abs (pos (suc n)) other = omega arith
-some_abs (negsuc n) other = omega arith
-
 pub returns-then-is_zero : goal.returns-then-is_zero
 returns-then-is_zero c = zero_word (format_of c.args.format) (number_of c.args.number) c.args.exponent c.args.up c.args.down (c.is_zero.ensures.zero c.if-is_zero.true)
 
 pub long_leading-requires-clause-some : goal.long_leading-requires-clause-some
-long_leading-requires-clause-some c = omega (arith, c.in_ok-long.ensures.value, some_abs (number_of c.args.number) (c.is_zero.ensures.some c.if-is_zero.false))
+long_leading-requires-clause-some c = omega (arith, c.in_ok-long.ensures.value, nat_abs-some (number_of c.args.number) (c.is_zero.ensures.some c.if-is_zero.false))
 
 pub returns-then-is_negative : goal.returns-then-is_negative
 returns-then-is_negative c =

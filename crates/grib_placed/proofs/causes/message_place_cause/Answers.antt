@@ -1,7 +1,8 @@
 use Rattle.std.proofs.Common.{◌≡◌, ◌+◌, ◌<◌, is_some, true, false, inl, inr, sym, ap, ◌∙◌, arith}
 use Rattle.std.proofs.lemmas.Bool.{cases_lt}
+use Rattle.grib_base.proofs.Firsts.{none_from_each}
 use Rattle.grib2_message.specs.Fields.{field_count}
-use Rattle.grib_report.proofs.Causes.{causes_at, causes_none, not_some}
+use Rattle.grib_report.proofs.Causes.{causes_at, not_some}
 use Rattle.grib_placed.specs.Causes.{field_place_cause}
 use Rattle.grib_placed.proofs.causes.message_place_cause.Goals as goal
 
@@ -35,4 +36,4 @@ returns c =
     let m = c.args.message.now in
     let count = c.fields-index-end.ensures.count in
     let all = c.loop-index-test.false in
-    sym (causes_none (field_place_cause m) (field_count m) 1 (λ j within. l.invariant j (omega (arith, count, all))))
+    sym (none_from_each (field_place_cause m) 1 (field_count m) (λ j within. l.invariant j (omega (arith, count, all))))

@@ -4,6 +4,7 @@ use Rattle.std.proofs.Math.Nat.{mul-le-mul_left}
 use Rattle.std.proofs.lemmas.Int.{ints}
 use Rattle.grib_dyadic.proofs.Numbers.{times_sum}
 use Rattle.grib_bits.specs.Octets.{signed_octets}
+use Rattle.grib_bits.proofs.Arithmetic.{sum_le}
 use Rattle.grib_places.specs.declared.coordinate.Coordinate.TheVariants.{Latitude}
 use Rattle.grib_places.specs.Places.{parts_of, first_of, way_of, count_of}
 use Rattle.grib_places.proofs.laws.what_is_told_is_kept.Goals as goal
@@ -36,10 +37,7 @@ falls (negsuc n) j k low less =
 below : (a b : ℤ) → b ≤ℤ a → (b -ℤ a) ≤ℤ pos 0
 below a b h = omega (arith, ints)
 
-added : (a x y : ℤ) → x ≤ℤ y → (a +ℤ x) ≤ℤ (a +ℤ y)
-added a x y h = omega (arith, ints)
-
 pub returns-clause-southward : goal.returns-clause-southward
 returns-clause-southward c = λ s j k low less.
-    added (first_of Latitude s *ℤ pos (parts_of (count_of Latitude s))) (way_of Latitude s *ℤ pos k) (way_of Latitude s *ℤ pos j)
+    sum_le (first_of Latitude s *ℤ pos (parts_of (count_of Latitude s))) (way_of Latitude s *ℤ pos k) (way_of Latitude s *ℤ pos j)
     (falls (way_of Latitude s) j k (below (signed_octets s 47 50) (signed_octets s 56 59) low) less)

@@ -9,7 +9,7 @@ use Rattle.grib_packing.specs.Packing.{packing_template, value_count, bit_width}
 use Rattle.grib_packing.specs.Representation.{Spelled}
 use Rattle.grib2_message.specs.Fields.{part_octets}
 use Rattle.grib_packing.proofs.Packings.{most-simple, packing_passes}
-use Rattle.grib_simple.proofs.Accepted.{same_column}
+use Rattle.grib_simple_reading.proofs.Accepted.{same_column}
 use Rattle.grib_rescan.proofs.Added.{scaled}
 use Rattle.grib_repack.proofs.Simply.{has_numbers}
 use Rattle.grib_reorder.proofs.Numbered.{are_points}

@@ -8,7 +8,7 @@ use Rattle.grib_rescan.specs.Source.{number_points}
 use Rattle.grib_rescan.proofs.Added.{all_added}
 use Rattle.grib_reorder.specs.declared.plain.PlainField.{PlainField}
 use Rattle.grib_reorder.specs.Plain.{plain_column, PlainStands}
-use Rattle.grib_reorder.proofs.Edits.{rows_stated, column_edited}
+use Rattle.grib_reorder.proofs.Edits.{rules_stated, column_edited}
 use Rattle.grib_reorder.proofs.rescanning.edit_column.Goals as goal
 
 pub cause-requires : goal.cause-requires
@@ -18,15 +18,15 @@ cause-requires c =
 
 pub takes_numbers-requires-clause-accepted : goal.takes_numbers-requires-clause-accepted
 takes_numbers-requires-clause-accepted c =
-    rows_stated c.args.edit.now c.args.message.now c.args.field c.in-Some.section3.octets.now c.in-Some.ensures.part.1 c.in-Some.ensures.passes (sym c.cause.ensures ∙ c.in_default-cause.is)
+    rules_stated c.args.edit.now c.args.message.now c.args.field c.in-Some.section3.octets.now c.in-Some.ensures.part.1 c.in-Some.ensures.passes (sym c.cause.ensures ∙ c.in_default-cause.is)
 
 pub plain_column-requires-clause-accepted : goal.plain_column-requires-clause-accepted
 plain_column-requires-clause-accepted c =
-    rows_stated c.args.edit.now c.args.message.now c.args.field c.in-Some.section3.octets.now c.in-Some.ensures.part.1 c.in-Some.ensures.passes (sym c.cause.ensures ∙ c.in_default-cause.is)
+    rules_stated c.args.edit.now c.args.message.now c.args.field c.in-Some.section3.octets.now c.in-Some.ensures.part.1 c.in-Some.ensures.passes (sym c.cause.ensures ∙ c.in_default-cause.is)
 
 pub column-requires-2-clause-accepted : goal.column-requires-2-clause-accepted
 column-requires-2-clause-accepted c =
-    rows_stated c.args.edit.now c.args.message.now c.args.field c.in-Some.section3.octets.now c.in-Some.ensures.part.1 c.in-Some.ensures.passes (sym c.cause.ensures ∙ c.in_default-cause.is)
+    rules_stated c.args.edit.now c.args.message.now c.args.field c.in-Some.section3.octets.now c.in-Some.ensures.part.1 c.in-Some.ensures.passes (sym c.cause.ensures ∙ c.in_default-cause.is)
 
 pub returns-in-Some-2 : goal.returns-in-Some-2
 returns-in-Some-2 c =

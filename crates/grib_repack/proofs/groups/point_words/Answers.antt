@@ -5,8 +5,8 @@ use Rattle.grib2_grids.specs.Grid.{grid_points}
 use Rattle.grib_packing.specs.Column.{points_with_mask}
 use Rattle.grib_packing.specs.Entries.{entries_of}
 use Rattle.grib_packing.specs.declared.column.Point.{Point}
-use Rattle.grib_complex.specs.declared.point_words.PointWords.{PointWords}
-use Rattle.grib_complex.specs.KeptWords.{AreWords, word_for}
+use Rattle.grib_codes.specs.declared.point_words.PointWords.{PointWords}
+use Rattle.grib_codes.specs.KeptWords.{AreWords, word_for}
 use Rattle.grib2_message.specs.Fields.{part_octets, field_mask, column_of}
 use Rattle.grib2_message.proofs.Masks.{points_bounds, points_of_mask}
 use Rattle.grib_repack.proofs.groups.point_words.Goals as goal

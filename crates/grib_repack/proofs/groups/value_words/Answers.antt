@@ -5,9 +5,9 @@ use Rattle.grib_packing.specs.Packing.{bit_width, packing_template, value_count}
 use Rattle.grib_packing.proofs.Fields.{length-plain}
 use Rattle.grib_packing.proofs.Packings.{entries_of-simple}
 use Rattle.grib2_message.specs.Fields.{part_octets}
-use Rattle.grib_complex.specs.KeptWords.{AreWords}
+use Rattle.grib_codes.specs.KeptWords.{AreWords}
 use Rattle.grib_repack.proofs.Simply.{numbers_read, room_read}
-use Rattle.grib_simple.proofs.InPlace.{plain_point}
+use Rattle.grib_simple_reading.proofs.Plain.{plain_point}
 use Rattle.grib_repack.proofs.groups.value_words.Goals as goal
 
 pub of_numbers-requires-clause-within : goal.of_numbers-requires-clause-within

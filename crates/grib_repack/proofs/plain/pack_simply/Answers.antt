@@ -7,7 +7,7 @@ use Rattle.grib_packing.specs.Packing.{packing_template}
 use Rattle.grib_packing.specs.Representation.{Spelled}
 use Rattle.grib_packing.specs.Written.{IsPacked}
 use Rattle.grib_packing.proofs.Packings.{entries_of-simple, packing_passes}
-use Rattle.grib_simple.proofs.InPlace.{plain_point}
+use Rattle.grib_simple_reading.proofs.Plain.{plain_point}
 use Rattle.grib2_message.specs.Fields.{part_octets, field_mask, column_of}
 use Rattle.grib2_message.proofs.Masks.{points_bounds}
 use Rattle.grib_repack.specs.Repacked.{kind_of}

@@ -1,7 +1,7 @@
 use Rattle.std.proofs.Common.{length, ap, ◌∙◌}
 use Rattle.std.proofs.lemmas.List.FromFn.{length-map-range_with_len}
 use Rattle.grib2_message.specs.Fields.{field_count}
-use Rattle.grib_repack.specs.Faults.{target_of}
+use Rattle.grib_packing.specs.Targets.{target_of}
 use Rattle.grib_repack.specs.Repacked.{packed_field}
 use Rattle.grib_repack.proofs.repacking.repack.Goals as goal
 

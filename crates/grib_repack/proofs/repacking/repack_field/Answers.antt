@@ -1,6 +1,6 @@
 use Rattle.std.proofs.Common.{refl}
 use Rattle.grib2_message.specs.Fields.{column_of}
-use Rattle.grib_repack.specs.Faults.{target_of}
+use Rattle.grib_packing.specs.Targets.{target_of}
 use Rattle.grib_repack.specs.Repacked.{kind_of}
 use Rattle.grib_repack.proofs.Packing.{field_packed, field_fault}
 use Rattle.grib_repack.proofs.repacking.repack_field.Goals as goal

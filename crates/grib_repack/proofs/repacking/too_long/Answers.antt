@@ -1,10 +1,11 @@
-use Rattle.std.proofs.Common.{◌≡◌, ℕ, ap, sym, ◌∙◌, arith}
-use Rattle.std.specs.List.{range_with_len}
+use Rattle.std.proofs.Common.{◌≡◌, ℕ, ◌+◌, ap, sym, ◌∙◌, arith}
+use Rattle.grib_base.proofs.Firsts.{none_more}
+use Rattle.grib_repack.specs.Repacked.{field_misfit}
+use Rattle.grib_base.specs.Rules.{first_among}
 use Rattle.grib2_message.specs.Fields.{field_count}
-use Rattle.grib_repack.specs.Faults.{target_of}
+use Rattle.grib_packing.specs.Targets.{target_of}
 use Rattle.grib_repack.specs.Lengths.{packed_length, length_with}
-use Rattle.grib_repack.specs.Repacked.{misfit_among}
-use Rattle.grib_repack.proofs.Fields.{none_more, fault_in, fault_long}
+use Rattle.grib_repack.proofs.Fields.{fault_in, fault_long}
 use Rattle.grib_repack.proofs.Whole.{length_more}
 use Rattle.grib_repack.proofs.repacking.too_long.Goals as goal
 
@@ -22,7 +23,7 @@ loop-before-preserved c =
     let e = c.in-Ok.ensures in
     let long = ap packed_length e.1 in
     record {
-      none = none_more target m before i.none e.0;
+      none = none_more (field_misfit target m) 1 before (before + 1) (omega arith) i.none e.0;
       whole = omega (arith, i.whole, length_more target m before, long, c.packed_length-whole.ensures);
       long = omega (arith, i.long);
       few = omega (arith, i.few, c.packed_length-whole.ensures, e.2.short_5, e.2.short_6, e.2.short_7);
@@ -34,5 +35,5 @@ returns c =
     let m = c.args.message.now in
     let all : c.loop-before.before ≡ field_count m = omega (arith, c.loop-before-test.false, c.loop-before.auto.before-end, c.fields-before-end.ensures.count) in
     let i = c.loop-before.invariant in
-    fault_long target m c.loop-before.whole (ap (λ (n : ℕ). misfit_among target m (range_with_len 1 n)) (sym all) ∙ i.none)
+    fault_long target m c.loop-before.whole (ap (λ (n : ℕ). first_among (field_misfit target m) n 1) (sym all) ∙ i.none)
     (i.whole ∙ ap (length_with target m) all ∙ sym c.requires.whole) i.long

@@ -1,7 +1,7 @@
 use Rattle.std.proofs.Common.{◌≡◌, ℕ, ◌^◌, ◌<◌, ◌≤◌, Bool, cond, List, [], ◌++◌, length, sym, ap, ◌∙◌, Ok, arith, subst}
 use Rattle.grib_bits.specs.Bits.{bits_of}
 use Rattle.grib_bitmap.specs.Mask.{present_count}
-use Rattle.grib_complex.proofs.AsWords.{whole_mask}
+use Rattle.grib_codes.proofs.AsWords.{whole_mask}
 use Rattle.grib_packing.specs.declared.column.Point.{Point}
 use Rattle.grib_packing.specs.Entries.{entries_of}
 use Rattle.grib_packing.specs.Misfits.{ToSimple}

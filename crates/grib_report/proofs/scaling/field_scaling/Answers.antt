@@ -1,10 +1,11 @@
 use Rattle.std.proofs.Common.{length, ap, arith}
+use Rattle.grib_base.proofs.Places.{any_of_none}
 use Rattle.grib2_grids.specs.Grid.{grid_points}
 use Rattle.grib_packing.specs.Column.{points_with_mask}
 use Rattle.grib_packing.specs.Entries.{entries_of, is_out_of_range}
 use Rattle.grib2_message.specs.Fields.{part_octets, field_mask}
 use Rattle.grib_packing.proofs.Packings.{packing_passes}
-use Rattle.grib_repack.proofs.Ranges.{entries_within, none_with_mask, any_of_none}
+use Rattle.grib_repack.proofs.Ranges.{entries_within, none_with_mask}
 use Rattle.grib_report.proofs.scaling.field_scaling.Goals as goal
 
 pub numbers_of-numbers-requires : goal.numbers_of-numbers-requires

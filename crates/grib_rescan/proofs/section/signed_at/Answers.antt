@@ -2,7 +2,7 @@ use Rattle.std.proofs.Common.{ℕ, ◌+◌, ◌^◌, ◌<◌, nat_abs, ℤ, refl
 use Rattle.grib_bits.specs.Bits.{bits_of, signed}
 use Rattle.grib_bits.proofs.Numbers.{length-bits_of}
 use Rattle.grib_bits.proofs.OctetNumbers.{AreOctets-known, signed-octets}
-use Rattle.grib_rescan.proofs.Corners.{signed-small}
+use Rattle.grib_bits.proofs.Signs.{signed-small}
 use Rattle.grib_rescan.proofs.section.signed_at.Goals as goal
 
 pub returns-clause-value : goal.returns-clause-value

@@ -1,7 +1,7 @@
 use Rattle.std.proofs.Common.{◌≡◌, ◌-◌, ◌*◌, ◌<◌, ◌^◌, ◌++◌, ℕ, map, drop, ap, ◌∙◌, sym, subst, arith}
 use Rattle.grib_bits.specs.Bits.{bits}
 use Rattle.grib_bits.proofs.WordNumbers.{number-lt_48}
-use Rattle.grib_simple.specs.Part.{plain_from}
+use Rattle.grib_simple_reading.specs.Part.{plain_from}
 use Rattle.grib_rescan.proofs.Added.{scaled, number_added, none_added}
 use Rattle.grib_rescan.proofs.source.add_numbers.Goals as goal
 

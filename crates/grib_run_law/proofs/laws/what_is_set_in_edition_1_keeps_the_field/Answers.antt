@@ -1,5 +1,6 @@
 use Rattle.std.proofs.Common.{◌≡◌, All, IsTrue, List, [], ◌∙◌, refl, sym, ap, subst}
-use Rattle.grib1_sections.specs.Keys.{can_set1, number1_of}
+use Rattle.grib1_sections.specs.Keys.{number1_of}
+use Rattle.grib_keys.specs.Keys1.{can_set1}
 use Rattle.grib1_select.specs.declared.condition.Change1.{Change1}
 use Rattle.grib1_select.specs.Changed.{with_keys1, set_fault1}
 use Rattle.grib_command.specs.Command.{under}

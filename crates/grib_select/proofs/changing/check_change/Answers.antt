@@ -1,6 +1,6 @@
 use Rattle.std.proofs.Common.{◌≡◌, ℕ, ◌+◌, ◌-◌, Bool, true, false, Option, Some, None, is_some, is_none, sym, refl, ap, ◌∙◌, arith}
 use Rattle.std.specs.List.{range_with_len}
-use Rattle.grib_base.specs.Rows.{choose}
+use Rattle.grib_base.specs.Rules.{choose}
 use Rattle.grib2_message.specs.Fields.{field_count}
 use Rattle.grib_select.specs.declared.changing.SetFault.TheVariants.{KeyRange}
 use Rattle.grib_select.specs.Changed.{new_number, first_without}

@@ -3,7 +3,7 @@ use Rattle.std.proofs.lemmas.Result.{IfOk-weaker}
 use Rattle.grib_bits.specs.Bits.{bits_of}
 use Rattle.grib_packing.specs.declared.column.Point.{Point}
 use Rattle.grib_packing.specs.Packed.{HasContents, IsBitmap, present_bits}
-use Rattle.grib_simple.proofs.InPlace.{full_bitmap, part_bitmap}
+use Rattle.grib_simple_values.proofs.InPlace.{full_bitmap, part_bitmap}
 use Rattle.grib_simple_values.proofs.bitmap.mask_section.Goals as goal
 
 pub returns-in_ok-room_for : goal.returns-in_ok-room_for

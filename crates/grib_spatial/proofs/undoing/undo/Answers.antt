@@ -1,6 +1,6 @@
 use Rattle.std.proofs.Common.{◌≡◌, ◌+◌, refl, ap, ◌∙◌, arith, length, to_z, of_z, w64}
 use Rattle.std.proofs.lemmas.Int.{ints}
-use Rattle.grib_base.specs.Rows.{first_place}
+use Rattle.grib_base.specs.Rules.{first_place}
 use Rattle.grib_packing.specs.Differences.{undone, is_beyond}
 use Rattle.grib_spatial.proofs.Whole.{gave_next, gave_beyond, gave_all}
 use Rattle.grib_spatial.proofs.undoing.undo.Goals as goal

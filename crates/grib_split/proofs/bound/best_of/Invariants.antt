@@ -1,7 +1,7 @@
 use Rattle.std.proofs.Common.{ℕ, ◌+◌, ◌-◌, ◌*◌, ◌^◌, ◌<◌, ◌≤◌, take, drop}
 use Rattle.std.specs.Prelude.{slice_index}
 use Rattle.grib_packing.specs.Groupings.{width_of}
-use Rattle.grib_packing.specs.Span.{IsSpan}
+use Rattle.grib_codes.specs.Span.{IsSpan}
 use Rattle.grib_split.specs.Costs.{header_of}
 use Rattle.grib_split.proofs.bound.best_of.Given as goal
 

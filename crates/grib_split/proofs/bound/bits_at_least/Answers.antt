@@ -2,7 +2,7 @@ use Rattle.std.proofs.Common.{◌≡◌, ℕ, List, ◌+◌, ◌-◌, ◌*◌, �
 use Rattle.std.proofs.lemmas.List.Elements.{All-drop}
 use Rattle.grib_base.specs.declared.code.Code.{Code}
 use Rattle.grib_packing.specs.Groupings.{width_of}
-use Rattle.grib_packing.specs.Span.{IsTold}
+use Rattle.grib_codes.specs.Span.{IsTold}
 use Rattle.grib_split.specs.Bound.{NoneTakesFewer}
 use Rattle.grib_split.specs.Costs.{header_of}
 use Rattle.grib_split.proofs.Cut.{none_fewer_cut}

@@ -4,7 +4,7 @@ use Rattle.std.specs.Int.{bit_at}
 use Rattle.std.proofs.lemmas.Nat.Bits.{bit_at-zero}
 use Rattle.grib_base.specs.declared.code.Code.{Code}
 use Rattle.grib_base.specs.declared.code.Code.TheVariants.{Present}
-use Rattle.grib_packing.specs.Span.{IsBelow}
+use Rattle.grib_codes.specs.Span.{IsBelow}
 use Rattle.grib_split.specs.declared.behind.Behind.{Behind}
 use Rattle.grib_split.specs.declared.slots.Slots.{Slots}
 use Rattle.grib_packing.specs.Groupings.{width_of}

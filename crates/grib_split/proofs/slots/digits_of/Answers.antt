@@ -3,7 +3,7 @@ use Rattle.std.proofs.Math.Nat.{pow-suc, pow-le-pow_right}
 use Rattle.std.proofs.lemmas.Nat.{leading_top}
 use Rattle.std.specs.Int.Count.{count_leading_zeros}
 use Rattle.grib_packing.specs.Groupings.{digits}
-use Rattle.grib_packing.proofs.Spans.{digits-is}
+use Rattle.grib_packing.proofs.Digits.{digits-is}
 use Rattle.grib_split.proofs.slots.digits_of.Goals as goal
 
 -- what is known of the digits of a number

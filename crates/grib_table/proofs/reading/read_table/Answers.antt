@@ -1,22 +1,25 @@
-use Rattle.std.proofs.Common.{ℕ, List, refl, sym, ap, subst}
-use Rattle.grib_params.specs.Table.{table_verdict}
-use Rattle.grib_table.proofs.TableReading.{few_parameters, good_table, by_fault, by_stop, none_by}
-use Rattle.grib_table.specs.Fronts.{Tells, IsTaken}
-use Rattle.grib_table.specs.Tabled.{parameters_of, tabled_by}
+use Rattle.std.proofs.Common.{ℕ, List, sym, subst, Some}
+use Rattle.grib_io.specs.Shelves.{Tells}
+use Rattle.grib_io.specs.Reading.{IsFirst}
+use Rattle.grib_table.proofs.TableReading.{by_fault, by_stop}
 use Rattle.grib_table.specs.declared.reading.TheConstants.{MOST}
 use Rattle.grib_table.proofs.reading.read_table.Goals as goal
 
 pub returns-in_err-text-clause-read : goal.returns-in_err-text-clause-read
 returns-in_err-text-clause-read g c =
-    by_stop parameters_of c.from_residual.result (g.H.Shelf.contents c.args.shelf.now) c.args.name.now c.in_err-text.field-0.0 c.in_err-text.ensures.read c.from_residual.ensures.1
+    by_stop g.R.FromRecords.none g.R.FromRecords.good g.R.FromRecords.IsFault g.R.FromRecords.verdict c.from_residual.result (g.H.Shelf.contents c.args.shelf.now) c.args.name.now
+    c.in_err-text.field-0.0 c.in_err-text.ensures.read c.from_residual.ensures.1
 
 pub returns-in_err-read-clause-read : goal.returns-in_err-read-clause-read
 returns-in_err-read-clause-read g c =
-    by_fault parameters_of few_parameters c.from_residual-in_err-read.result (g.H.Shelf.contents c.args.shelf.now) c.args.name.now MOST c.as_slice.result.now c.in_err-read.field-0.0 refl
-    (subst (λ (x : List ℕ). Tells (g.H.Shelf.contents c.args.shelf.now) c.args.name.now (IsTaken MOST x)) (sym c.as_slice.ensures.value) c.in_ok-text.ensures.read)
-    (none_by (table_verdict c.as_slice.result.now) c.in_err-read.field-0.0 c.in_err-read.ensures) c.from_residual-in_err-read.ensures.1
+    by_fault g.R.FromRecords.none g.R.FromRecords.good g.R.FromRecords.IsFault g.R.FromRecords.verdict c.from_residual-in_err-read.result (g.H.Shelf.contents c.args.shelf.now) c.args.name.now
+    c.as_slice.result.now c.in_err-read.field-0.0
+    (subst (λ (x : List ℕ). Tells (g.H.Shelf.contents c.args.shelf.now) c.args.name.now (IsFirst (Some MOST) x)) (sym c.as_slice.ensures.value) c.in_ok-text.ensures.read) c.in_err-read.ensures
+    c.from_residual-in_err-read.ensures.1
 
 pub returns-clause-read : goal.returns-clause-read
-returns-clause-read g c =
-    good_table parameters_of few_parameters (g.H.Shelf.contents c.args.shelf.now) c.args.name.now MOST c.as_slice.result.now c.in_ok-read.field-0 refl
-    (subst (λ (x : List ℕ). Tells (g.H.Shelf.contents c.args.shelf.now) c.args.name.now (IsTaken MOST x)) (sym c.as_slice.ensures.value) c.in_ok-text.ensures.read) (ap tabled_by c.in_ok-read.ensures)
+returns-clause-read g c = (
+  c.as_slice.result.now,
+  subst (λ (x : List ℕ). Tells (g.H.Shelf.contents c.args.shelf.now) c.args.name.now (IsFirst (Some MOST) x)) (sym c.as_slice.ensures.value) c.in_ok-text.ensures.read,
+  c.in_ok-read.ensures,
+)

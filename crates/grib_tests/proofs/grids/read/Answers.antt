@@ -18,4 +18,4 @@ returns g c =
     let itself = subst (λ (n : ℕ). StatesItself n s) c.section-section.ensures.number section.itself in
     let known = subst AreOctets (sym c.section-section.ensures.octets) (AreOctets-known c.args.octets.now c.type_inv.octets) in
     if_ok c.read_grid.result _ (λ value. IsWritable value) _
-    (λ value h. writable value s (IsSectionOf-read section.start value s known itself h.0 h.1)) c.read_grid.ensures.rows
+    (λ value h. writable value s (IsSectionOf-read section.start value s known itself h.0 h.1)) c.read_grid.ensures.rules

@@ -1,7 +1,7 @@
 use Rattle.std.proofs.Common.{◌≡◌, ◌∙◌}
+use Rattle.std.proofs.lemmas.Result.{IfOk-weaker}
 use Rattle.grib_text.specs.Lines.{origin_of}
 use Rattle.grib_text.specs.Lines1.{time1_of, origin1_text, grid1_of, grid1_text, product1_of, packing1_of, packing1_text}
-use Rattle.grib_text.proofs.IfOks.{if_ok}
 use Rattle.grib_text.proofs.Pieces1.{list_text1-pieces}
 use Rattle.grib_text.proofs.edition1.list_text1.Goals as goal
 
@@ -20,4 +20,4 @@ returns c =
     let origin_is : origin ≡ origin1_text m = rw (o.ensures.centre, o.ensures.time) in
     let grid_is : grid ≡ grid1_text m = rw (g.ensures.grid_type, g.ensures.points) in
     let packing_is : packing ≡ packing1_text m = rw (k.ensures.bits, k.ensures.values) in
-    if_ok c.format.result _ _ (λ text is. is ∙ list_text1-pieces m c.args.number origin grid product packing origin_is grid_is c.read-product.ensures packing_is) c.format.ensures.ok
+    IfOk-weaker c.format.result _ _ (λ text is. is ∙ list_text1-pieces m c.args.number origin grid product packing origin_is grid_is c.read-product.ensures packing_is) c.format.ensures.ok

@@ -1,5 +1,5 @@
 use Rattle.std.proofs.Common.{List, ℕ, ◌++◌, ap, ◌∙◌}
-use Rattle.grib1_sections.specs.Keys.{keys1}
+use Rattle.grib_keys.specs.Keys1.{keys1}
 use Rattle.grib_text.specs.KeyLines.{numbers_text}
 use Rattle.grib_text.proofs.first.keys_text1.Goals as goal
 

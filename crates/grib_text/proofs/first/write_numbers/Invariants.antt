@@ -1,6 +1,6 @@
 use Rattle.std.proofs.Common.{◌≡◌, ◌++◌, drop}
 use Rattle.std.specs.Prelude.{string_bytes}
-use Rattle.grib1_sections.specs.Keys.{keys1}
+use Rattle.grib_keys.specs.Keys1.{keys1}
 use Rattle.grib_text.specs.KeyLines.{numbers_text}
 use Rattle.grib_text.proofs.first.write_numbers.Given as goal
 

@@ -1,6 +1,6 @@
 use Rattle.std.proofs.Common.{◌≡◌, option_map, ◌∙◌}
+use Rattle.std.proofs.lemmas.Result.{IfOk-weaker}
 use Rattle.grib_text.specs.Lines.{time_of, time_text, surface_of, parameter_of, origin_of, grid_of, instant_of, product_of, known_bits, packing_of}
-use Rattle.grib_text.proofs.IfOks.{if_ok}
 use Rattle.grib_text.proofs.Pieces.{summary_text-pieces}
 use Rattle.grib_text.proofs.listed.summary_text.Goals as goal
 
@@ -21,4 +21,4 @@ returns c =
     let origin_is : origin ≡ origin_of s.identification.centre (time_text s.identification) = rw (o.ensures.centre, o.ensures.time) in
     let grid_is : grid ≡ grid_of s.grid s.points = rw (g.ensures.template, g.ensures.points) in
     let packing_is : packing ≡ packing_of s.packing (known_bits s) s.values = rw (k.ensures.template, k.ensures.bits, k.ensures.values) in
-    if_ok c.format.result _ _ (λ text is. is ∙ summary_text-pieces c.args.number c.args.field s origin grid product packing origin_is grid_is p.ensures packing_is) c.format.ensures.ok
+    IfOk-weaker c.format.result _ _ (λ text is. is ∙ summary_text-pieces c.args.number c.args.field s origin grid product packing origin_is grid_is p.ensures packing_is) c.format.ensures.ok

@@ -8,6 +8,6 @@ pub first_shape-requires : goal.first_shape-requires
 first_shape-requires c =
     let same : grid c.args.message.now ≡ c.in-Some.section2.now = ap (λ s. unwrap_or s []) c.in-Some.ensures.section in
     record {
-      long = subst (λ s. 28 ≤ length s) same (long_grid (grid c.args.message.now) c.section.ensures.passes.grid_stands.rows_hold);
+      long = subst (λ s. 28 ≤ length s) same (long_grid (grid c.args.message.now) c.section.ensures.passes.grid_stands.rules_hold);
       points = search rules;
     }

@@ -1,8 +1,8 @@
 use Rattle.std.proofs.Common.{◌≡◌, ℕ, List, None, Some, sym, ap, ◌∙◌, FitsSigned, w64, to_z-of_z, lit<, rules, tests}
 use Rattle.std.specs.Prelude.{option_map}
 use Rattle.std.specs.Option.{option_and_then}
-use Rattle.grib1_sections.specs.declared.key.Key1.{Key1}
-use Rattle.grib1_sections.specs.Keys.{key1_named}
+use Rattle.grib_keys.specs.declared.key1.Key1.{Key1}
+use Rattle.grib_keys.specs.Keys1.{key1_named}
 use Rattle.grib_numbers.specs.Numbers.{signed_number}
 use Rattle.grib_words.specs.Reading.{name_in, value_in}
 use Rattle.grib_words.specs.Words.{change1, change1_of}

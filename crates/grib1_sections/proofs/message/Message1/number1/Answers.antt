@@ -2,8 +2,8 @@ use Rattle.std.proofs.Common.{◌≡◌, ◌≢◌, refl, sym, ap, ◌∙◌, su
 use Rattle.std.proofs.lemmas.Int.{ints}
 use Rattle.grib_bits.specs.Bits.{bits_of, signed}
 use Rattle.grib1_sections.specs.Keys.{key1_of, number1_of}
-use Rattle.grib1_sections.specs.declared.key.Key1.{Key1}
-use Rattle.grib1_sections.specs.declared.key.Key1.TheVariants.{Version, DecimalScale}
+use Rattle.grib_keys.specs.declared.key1.Key1.{Key1}
+use Rattle.grib_keys.specs.declared.key1.Key1.TheVariants.{Version, DecimalScale}
 use Rattle.grib1_sections.proofs.message.Message1.number1.Goals as goal
 
 with_sign : (m : List ℕ) (key : Key1) → key ≡ DecimalScale → signed (bits_of 16 (key1_of m key)) ≡ number1_of m key

@@ -7,4 +7,4 @@ use Rattle.grib1_sections.proofs.message.Message1.rows1.Goals as goal
 pub read_rows-requires : goal.read_rows-requires
 read_rows-requires c =
     let same : grid c.args.self.now ≡ c.present_section.result.now = cc in
-    subst HoldsLists same (holds_lists (grid c.args.self.now) c.present_section.ensures.passes.grid_stands.rows_hold)
+    subst HoldsLists same (holds_lists (grid c.args.self.now) c.present_section.ensures.passes.grid_stands.rules_hold)

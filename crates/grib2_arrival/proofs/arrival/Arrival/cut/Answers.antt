@@ -1,6 +1,6 @@
 use Rattle.std.proofs.Common.{◌≡◌, ℕ, ◌+◌, sym, ap, ◌∙◌}
 use Rattle.grib_base.specs.declared.fault.Reason.TheVariants.{Truncated}
-use Rattle.grib_base.specs.Rows.{refusal}
+use Rattle.grib_base.specs.Rules.{refusal}
 use Rattle.grib2_sections.specs.Verdict.{Refused}
 use Rattle.grib2_arrival.specs.Heard.{cut_off}
 use Rattle.grib2_arrival.proofs.Verdicts.{cut_is}

@@ -1,8 +1,8 @@
 use Rattle.std.proofs.Common.{◌≡◌, ℕ, ◌+◌, ◌≤◌, List, [], ◌++◌, take, drop, length, sym, ap, ◌∙◌, subst, arith, length-take-le, length-append}
 use Rattle.std.proofs.lemmas.Result.{err_from_is_err_and}
-use Rattle.grib_base.specs.Rows.{first_fault}
+use Rattle.grib_base.specs.Rules.{first_fault}
 use Rattle.grib_base.specs.declared.fault.ReadFault.TheVariants.{Refused as ReadRefused}
-use Rattle.grib2_sections.specs.Head.{head_rows, head_of}
+use Rattle.grib2_sections.specs.Head.{head_rules, head_of}
 use Rattle.grib2_sections.specs.declared.indicator.Head.{Head}
 use Rattle.grib2_sections.specs.Frame.{Position}
 use Rattle.grib2_message.specs.Summary.{summary_in_force}
@@ -42,8 +42,8 @@ new-kept-requires c =
     let begins = front_begins (u ++ part) (drop taken piece) (subst BeginsLikeTwo (sym (parted u piece taken)) c.requires.heard.3) in
     let two = begins.second (omega (arith, length-append u part, all, bh.count)) in
     let read = c.in_ok-head.ensures in
-    let none = ap (λ (m : List ℕ). first_fault (head_rows m)) (sym is) ∙ read.0 in
-    let p = head_passes (u ++ part) (λ first. absurd (omega (arith, two, first))) (passes_from_none (head_rows (u ++ part)) none) in
+    let none = ap (λ (m : List ℕ). first_fault (head_rules m)) (sym is) ∙ read.0 in
+    let p = head_passes (u ++ part) (λ first. absurd (omega (arith, two, first))) (passes_from_none (head_rules (u ++ part)) none) in
     let total = ap (λ (h : Head). h.total) (read.1 ∙ ap head_of is ∙ head_two (u ++ part) two) in
     record { shortest = omega (arith, total, p.least); longest = omega (arith, total, p.most) }
 
@@ -60,7 +60,7 @@ returns-in_err-head c = λ profile u bh.
     let begins = front_begins (u ++ part) (drop taken piece) (subst BeginsLikeTwo (sym (parted u piece taken)) given) in
     let sixteen : length (u ++ part) ≡ 16 = omega (arith, length-append u part, all, bh.count) in
     let two = begins.second (omega (arith, sixteen)) in
-    let refused = head_refused profile (u ++ part) (omega (arith, sixteen)) two _ (ap (λ (m : List ℕ). first_fault (head_rows m)) (sym is) ∙ c.in_err-head.ensures) in
+    let refused = head_refused profile (u ++ part) (omega (arith, sixteen)) two _ (ap (λ (m : List ℕ). first_fault (head_rules m)) (sym is) ∙ c.in_err-head.ensures) in
     let p = err_from_is_err_and c.from_residual.result c.from_residual.ensures.1 in
     rw (p.1, p.2) (stops_piece profile u piece taken (ReadRefused _) two refused)
 
@@ -80,7 +80,7 @@ returns c = λ profile u bh.
     let read = c.in_ok-head.ensures in
     let told = read.1 ∙ ap head_of is ∙ head_two (u ++ part) two in
     let kept = c.new-kept.result in
-    let stands = stands_first profile (u ++ part) kept sixteen two (ap (λ (m : List ℕ). first_fault (head_rows m)) (sym is) ∙ read.0)
+    let stands = stands_first profile (u ++ part) kept sixteen two (ap (λ (m : List ℕ). first_fault (head_rules m)) (sym is) ∙ read.0)
     (c.new-kept.ensures.frame ∙ ap (λ (h : Head). let at : Position = record { total = h.total; place = 17; last = 0 } in at) told) c.new-kept.ensures.force (c.new-kept.ensures.profile ∙ bh.under)
     (c.new-kept.ensures.line ∙ ap (λ (h : Head). summary_in_force h.discipline []) told) c.new-kept.ensures.summaries in (
       omega (arith, c.requires.some, bh.few, bh.count, c.min-taken.ensures),

@@ -1,7 +1,7 @@
 use Rattle.std.proofs.Common.{ℕ, length, refl, sym, ap₂, ◌∙◌, arith, ltb-false}
 use Rattle.std.proofs.lemmas.Result.{err_from_is_err_and}
-use Rattle.grib_base.specs.Rows.{first_fault, first_fault_at}
-use Rattle.grib_bitmap.specs.Mask.{bitmap_rows}
+use Rattle.grib_base.specs.Rules.{first_fault, first_fault_at}
+use Rattle.grib_bitmap.specs.Mask.{bitmap_rules}
 use Rattle.grib2_sections.specs.Frame.{placed_at}
 use Rattle.grib2_message.specs.View.{earlier_bitmap, earlier_mask}
 use Rattle.grib2_message.proofs.After.{fault_by_number, bitmap_again, bitmap_new}
@@ -19,8 +19,8 @@ u8_at-requires-clause-within c =
     let s = c.args.section.now.octets.now in
     let force = c.args.self.now in
     let tried = c.in_ok-check_bitmap.ensures (earlier_mask before) (keeps_tells force.bitmap (earlier_bitmap before) c.requires.follows.1.bitmap) in
-    let rows = bitmap_rows s force.points c.values-values.result (earlier_mask before) in
-    ltb-false (length s) 6 (passes_from_none rows (none_located c.args.section.now.start (first_fault rows) tried)).0
+    let rules = bitmap_rules s force.points c.values-values.result (earlier_mask before) in
+    ltb-false (length s) 6 (passes_from_none rules (none_located c.args.section.now.start (first_fault rules) tried)).0
 
 pub returns-in_err-check_bitmap : goal.returns-in_err-check_bitmap
 returns-in_err-check_bitmap c = λ before h.
@@ -28,7 +28,7 @@ returns-in_err-check_bitmap c = λ before h.
     let s = section.octets.now in
     let force = c.args.self.now in
     let is = fault_by_number before (placed_at section.start s) section.number section.itself.number_stands force.profile 6 c.requires.number
-    ∙ ap₂ (λ (p v : ℕ). first_fault_at section.start (bitmap_rows s p v (earlier_mask before))) (sym h.points) (sym (c.values-values.ensures _ (c.representation.ensures before h))) in
+    ∙ ap₂ (λ (p v : ℕ). first_fault_at section.start (bitmap_rules s p v (earlier_mask before))) (sym h.points) (sym (c.values-values.ensures _ (c.representation.ensures before h))) in
     let p = err_from_is_err_and c.from_residual.result c.from_residual.ensures.1 in
     rw (p.1, p.2, is) (c.in_err-check_bitmap.ensures (earlier_mask before) (keeps_tells force.bitmap (earlier_bitmap before) h.bitmap))
 
@@ -39,7 +39,7 @@ returns-then-u8_at-ne-OWN_BITS c = λ before h.
     let force = c.args.self.now in
     let at = placed_at section.start s in
     let is = fault_by_number before at section.number section.itself.number_stands force.profile 6 c.requires.number
-    ∙ ap₂ (λ (p v : ℕ). first_fault_at section.start (bitmap_rows s p v (earlier_mask before))) (sym h.points) (sym (c.values-values.ensures _ (c.representation.ensures before h))) in (
+    ∙ ap₂ (λ (p v : ℕ). first_fault_at section.start (bitmap_rules s p v (earlier_mask before))) (sym h.points) (sym (c.values-values.ensures _ (c.representation.ensures before h))) in (
       is ∙ c.in_ok-check_bitmap.ensures (earlier_mask before) (keeps_tells force.bitmap (earlier_bitmap before) h.bitmap),
       bitmap_again before at section.number section.itself.number_stands force h c.requires.number
           (λ own. c.if-u8_at-ne-OWN_BITS.true (c.u8_at.ensures ∙ own)),
@@ -53,7 +53,7 @@ returns c = λ before h.
     let at = placed_at section.start s in
     let values = c.values-values.ensures _ (c.representation.ensures before h) in
     let is = fault_by_number before at section.number section.itself.number_stands force.profile 6 c.requires.number
-    ∙ ap₂ (λ (p v : ℕ). first_fault_at section.start (bitmap_rows s p v (earlier_mask before))) (sym h.points) (sym values) in
+    ∙ ap₂ (λ (p v : ℕ). first_fault_at section.start (bitmap_rules s p v (earlier_mask before))) (sym h.points) (sym values) in
     let none = is ∙ c.in_ok-check_bitmap.ensures (earlier_mask before) (keeps_tells force.bitmap (earlier_bitmap before) h.bitmap) in (
       none,
       bitmap_new before at section.number section.itself.number_stands force h c.requires.number

@@ -1,8 +1,8 @@
 use Rattle.std.proofs.Common.{◌≡◌, ◌+◌, ℕ, sym, ap, ◌∙◌, subst, arith}
 use Rattle.std.proofs.lemmas.Result.{err_from_is_err_and}
-use Rattle.grib_base.specs.Rows.{first_fault_at, located}
+use Rattle.grib_base.specs.Rules.{first_fault_at, located}
 use Rattle.grib2_grids.proofs.Under.{grid_header_length}
-use Rattle.grib2_products.specs.Opaque.{product_rows_under}
+use Rattle.grib2_products.specs.Opaque.{product_rules_under}
 use Rattle.grib_packing.specs.Entries.{packing_fault_under}
 use Rattle.grib2_sections.specs.Frame.{placed_at, may_follow}
 use Rattle.grib2_message.specs.View.{last_number, octets_in_force}
@@ -44,7 +44,7 @@ returns-in-4-clause-tried c = λ before h follows.
     let f = subst (λ (n : ℕ). Follows (last_number before) n) c.in-4.is (follows_tells (last_number before) section.number follows) in
     let count = products_are_fields c.args.self.now.profile before h.sound f ∙ sym h.fields in
     tried_as _ _ c.check_product.result _
-    (fault_by_number before at section.number numbered c.args.self.now.profile 4 c.in-4.is ∙ ap (λ (n : ℕ). first_fault_at section.start (product_rows_under c.args.self.now.profile s (n + 1))) count) c.check_product.ensures
+    (fault_by_number before at section.number numbered c.args.self.now.profile 4 c.in-4.is ∙ ap (λ (n : ℕ). first_fault_at section.start (product_rules_under c.args.self.now.profile s (n + 1))) count) c.check_product.ensures
     (λ none. force_other before at section.number numbered follows c.args.self.now h none
     (λ x. absurd (omega (arith, c.in-4.is))) (λ x. absurd (omega (arith, c.in-4.is))) (λ x. absurd (omega (arith, c.in-4.is))) (λ x. absurd (omega (arith, c.in-4.is))))
 

@@ -1,9 +1,9 @@
 use Rattle.std.proofs.Common.{◌≡◌, ◌+◌, ◌<◌, inl, inr, ℕ, Option, List, ap, ◌∙◌, arith}
 use Rattle.std.proofs.lemmas.Bool.{cases_lt}
+use Rattle.grib_base.proofs.Firsts.{none_from_each}
 use Rattle.grib_command.specs.Command.{texts_from}
 use Rattle.grib_command.specs.Judging.{fields_of}
 use Rattle.grib_reasons.specs.declared.cause.Cause.{Cause}
-use Rattle.grib_report.proofs.Causes.{causes_none}
 use Rattle.grib_compare.specs.Command.{counterpart, on_counterpart, compare_line, field_compared, line_beside, differing_beside, differing_from}
 use Rattle.grib_compare.specs.Lawful.{differing_once}
 use Rattle.grib_compare.specs.Seen.{readable_octets}
@@ -56,7 +56,7 @@ returns c =
     let cause : ℕ → Option Cause = λ i. on_counterpart (counterpart fields place i) i in
     let e : l.index ≡ fields_of m = omega (arith, c.fields-index-end.ensures, c.loop-index-test.false) in
     record {
-      clear = causes_none cause (fields_of m) 1 (λ j within. l.invariant.clear j (omega (arith, e)));
+      clear = none_from_each cause 1 (fields_of m) (λ j within. l.invariant.clear j (omega (arith, e)));
       text = l.invariant.text ∙ ap (λ n. texts_from (compare_line sections c.args.self.now.quiet fields place m) n 1) e;
       count = l.invariant.count ∙ ap (λ n. differing_from (λ i. differing_beside (field_compared sections fields place m i)) n 1) e;
     }

@@ -1,5 +1,5 @@
 use Rattle.std.proofs.Common.{[], option_map, ap, ◌∙◌}
-use Rattle.grib_base.specs.Rows.{choose}
+use Rattle.grib_base.specs.Rules.{choose}
 use Rattle.grib_reasons.specs.declared.cause.Cause.TheVariants.{Lost}
 use Rattle.grib_migrate.specs.Losses.{first_loss_with}
 use Rattle.grib_migrate.specs.Migrated.{migrated_with}

@@ -1,6 +1,6 @@
 use Rattle.std.proofs.Common.{◌≡◌, ℕ, ◌≤◌, Option, option_map, List, length, sym, ap, ap₂, ◌∙◌, subst, arith, append-nil}
 use Rattle.std.specs.Option.{option_or}
-use Rattle.grib1_sections.specs.declared.key.Key1.{Key1}
+use Rattle.grib_keys.specs.declared.key1.Key1.{Key1}
 use Rattle.grib1_select.specs.Changed.{with_keys1, set_fault1}
 use Rattle.grib1_select.proofs.Set.{opens, length-with_keys1}
 use Rattle.grib_dates.specs.Times.{is_valid_time1}

@@ -1,5 +1,5 @@
 use Rattle.std.proofs.Common.{Bool, true, refl, sym, subst}
-use Rattle.grib_base.specs.Rows.{choose}
+use Rattle.grib_base.specs.Rules.{choose}
 use Rattle.grib_reasons.specs.declared.cause.Cause.TheVariants.{EditionOne}
 use Rattle.grib_stream.specs.Acts.{world}
 use Rattle.grib_stream.proofs.Worlds.{did_none}

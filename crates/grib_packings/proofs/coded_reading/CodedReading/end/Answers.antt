@@ -1,9 +1,9 @@
 use Rattle.std.proofs.Common.{Some, length, drop, sym, ap, ◌∙◌, subst}
-use Rattle.grib_base.specs.Rows.{located}
+use Rattle.grib_base.specs.Rules.{located}
 use Rattle.grib_packings.specs.declared.coded_reading.CodedReading.{CodedReading}
 use Rattle.grib_packings.specs.Reading.{CodedAgrees}
 use Rattle.grib_packing.specs.Coded.{block_refusal}
-use Rattle.grib_packings.proofs.Coded.{blocks_fault, blocks_read}
+use Rattle.grib_block_feeding.proofs.Values.{blocks_fault, blocks_read}
 use Rattle.grib_packings.proofs.coded_reading.CodedReading.end.Goals as goal
 
 pub returns-in-Ok : goal.returns-in-Ok

@@ -4,7 +4,7 @@ use Rattle.grib_packing.specs.declared.column.Point.{Point}
 use Rattle.grib_packing.specs.Coded.{point_of}
 use Rattle.grib_packing.specs.Packing.{bit_width, value_count}
 use Rattle.grib_packing.proofs.Packings.{packing_passes}
-use Rattle.grib_ccsds.proofs.Accepting.{coding_fits}
+use Rattle.grib_block_feeding.proofs.Accepting.{coding_fits}
 use Rattle.grib_packings.proofs.Coded.{kept_at_once}
 use Rattle.grib_packings.proofs.coded_reading.CodedReading.start.Goals as goal
 

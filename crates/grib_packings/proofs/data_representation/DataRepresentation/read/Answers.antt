@@ -1,6 +1,6 @@
 use Rattle.std.proofs.Common.{◌≡◌, ℕ, Option, Some, None, MatchResult, sym, ap, ◌∙◌, subst}
 use Rattle.grib_base.specs.declared.fault.Fault.{Fault}
-use Rattle.grib_base.specs.Rows.{located}
+use Rattle.grib_base.specs.Rules.{located}
 use Rattle.grib_base.proofs.Passing.{carried}
 use Rattle.grib_packing.specs.Entries.{packing_fault_under}
 use Rattle.grib_packings.specs.Field.{IsDataOf}

@@ -1,7 +1,7 @@
 use Rattle.std.proofs.Common.{[], arith, ◌∙◌}
 use Rattle.grib_packing.specs.Entries.{entries_of}
 use Rattle.grib_base.proofs.Passing.{carried}
-use Rattle.grib_simple.proofs.Accepted.{same_column}
+use Rattle.grib_simple_reading.proofs.Accepted.{same_column}
 use Rattle.grib_packings.proofs.feeding.Feeding+Points.finish.Goals as goal
 
 pub returns-in_err-points : goal.returns-in_err-points

@@ -1,5 +1,5 @@
 use Rattle.std.proofs.Common.{◌≡◌, ℕ, Option, Some, None, MatchResult, length, drop, sym, arith, subst, subst₂}
-use Rattle.grib_base.specs.Rows.{located}
+use Rattle.grib_base.specs.Rules.{located}
 use Rattle.grib_packing.specs.Entries.{data_fault, entries_of}
 use Rattle.grib_packing.specs.Packing.{value_count}
 use Rattle.grib_packings.specs.declared.reading.Reading.{Reading}

@@ -1,6 +1,6 @@
 use Rattle.std.proofs.Common.{ap}
 use Rattle.grib_base.proofs.Passing.{carried}
-use Rattle.grib_base.specs.Rows.{located}
+use Rattle.grib_base.specs.Rules.{located}
 use Rattle.grib_packings.proofs.representation.Representation.check_data.Goals as goal
 
 pub returns : goal.returns

@@ -1,8 +1,8 @@
 use Rattle.std.proofs.Common.{length, drop, subst}
 use Rattle.grib_packing.specs.Entries.{entries_of}
 use Rattle.grib_packing.specs.Packing.{bit_width, value_count}
-use Rattle.grib_groups.specs.Feeding.{no_marks, plain_groups}
-use Rattle.grib_complex.proofs.Begun.{continues_itself, read_plainly}
+use Rattle.grib_group_reading.specs.Feeding.{no_marks, plain_groups}
+use Rattle.grib_complex_reading.proofs.Begun.{continues_itself, read_plainly}
 use Rattle.grib_packings.specs.declared.simple_reading.SimpleReading.{SimpleReading}
 use Rattle.grib_packings.specs.Reading.{SimpleAgrees}
 use Rattle.grib_packings.proofs.Simply.{simply_counted, simply_told}

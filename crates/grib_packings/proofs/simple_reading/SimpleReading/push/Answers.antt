@@ -1,5 +1,5 @@
 use Rattle.std.proofs.Common.{subst}
-use Rattle.grib_complex.proofs.Begun.{fault_more, passing_more}
+use Rattle.grib_complex_reading.proofs.Begun.{fault_more, passing_more}
 use Rattle.grib_packings.specs.declared.simple_reading.SimpleReading.{SimpleReading}
 use Rattle.grib_packings.specs.Reading.{SimpleAgrees}
 use Rattle.grib_packings.proofs.Simply.{simply_more}

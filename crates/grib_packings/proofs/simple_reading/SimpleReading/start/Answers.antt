@@ -1,7 +1,7 @@
 use Rattle.std.proofs.Common.{◌+◌, ◌*◌, ◌^◌, ◌≤◌, [], sym, ap, ◌∙◌, arith, pow_mono}
 use Rattle.std.proofs.lemmas.Bool.{ltb-false}
-use Rattle.grib_groups.specs.Feeding.{no_marks, plain_groups}
-use Rattle.grib_groups.specs.Table.{groups_in}
+use Rattle.grib_group_reading.specs.Feeding.{no_marks, plain_groups}
+use Rattle.grib_group_reading.specs.Table.{groups_in}
 use Rattle.grib_packings.proofs.Simply.{passes_simply, starts_simply}
 use Rattle.grib_packings.proofs.simple_reading.SimpleReading.start.Goals as goal
 

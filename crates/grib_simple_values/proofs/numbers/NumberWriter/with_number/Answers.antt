@@ -3,7 +3,7 @@ use Rattle.std.proofs.lemmas.List.{length_push}
 use Rattle.grib_bits.specs.Bits.{bits, bits_of}
 use Rattle.grib_packing.specs.Groupings.{digits}
 use Rattle.grib_packing.specs.Packed.{fields}
-use Rattle.grib_simple.proofs.InPlace.{fields_more}
+use Rattle.grib_simple_values.proofs.InPlace.{fields_more}
 use Rattle.grib_simple_values.specs.Written.{values_head}
 use Rattle.grib_simple_values.proofs.numbers.NumberWriter.with_number.Goals as goal
 

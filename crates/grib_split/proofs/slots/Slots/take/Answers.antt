@@ -2,7 +2,7 @@ use Rattle.std.proofs.Common.{◌≡◌, ℕ, ◌-◌, ◌<◌, ◌∷◌, max, 
 use Rattle.std.specs.Prelude.{slice_index}
 use Rattle.grib_base.specs.declared.code.Code.{Code}
 use Rattle.grib_base.specs.declared.code.Code.TheVariants.{Present, Primary, Secondary}
-use Rattle.grib_packing.specs.Span.{IsBelow}
+use Rattle.grib_codes.specs.Span.{IsBelow}
 use Rattle.grib_split.specs.Runs.{Told, Wide, WideAt}
 use Rattle.grib_packing.specs.Groupings.{digits}
 use Rattle.grib_split.proofs.Kept.{wide_as}

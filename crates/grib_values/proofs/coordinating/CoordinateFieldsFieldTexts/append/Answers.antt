@@ -1,12 +1,12 @@
 use Rattle.std.proofs.Common.{◌≡◌, ◌*◌, ◌≤◌, ◌++◌, None, false, List, ℕ, length, sym, ap, ◌∙◌, subst}
 use Rattle.grib_base.specs.declared.profile.Profile.TheVariants.{Open}
-use Rattle.grib_base.specs.Rows.{first_fault}
+use Rattle.grib_base.specs.Rules.{first_fault}
 use Rattle.grib_bits.specs.Octets.{octets}
 use Rattle.grib2_sections.specs.Template.{least_length}
-use Rattle.grib2_grids.specs.Grid.{grid_rows, grid_templates, grid_template}
+use Rattle.grib2_grids.specs.Grid.{grid_rules, grid_templates, grid_template}
 use Rattle.grib2_grids.specs.Opaque.{is_opaque_grid}
 use Rattle.grib2_grids.proofs.Numbers.{has_numbers}
-use Rattle.grib2_grids.proofs.Under.{same_grid_rows}
+use Rattle.grib2_grids.proofs.Under.{same_grid_rules}
 use Rattle.grib2_message.specs.Fields.{part_octets}
 use Rattle.grib_rescan.specs.Sections.{HasPoints}
 use Rattle.grib_command.specs.Pending.{WritesToAllBut}
@@ -25,8 +25,8 @@ append_arrays-requires g c =
       grid = subst HasPoints (sym same) (c.what_has_places.ensures.points Open s passes none);
       long = λ stated.
           let known : is_opaque_grid s ≡ false = ap is_opaque_grid (sym same) ∙ stated in
-          let rows : first_fault (grid_rows s) ≡ None = ap first_fault (sym (same_grid_rows Open s known)) ∙ passes in
-          subst (λ s. least_length grid_templates (grid_template s) ≤ length s) (sym same) (has_numbers s rows).template.long;
+          let rules : first_fault (grid_rules s) ≡ None = ap first_fault (sym (same_grid_rules Open s known)) ∙ passes in
+          subst (λ s. least_length grid_templates (grid_template s) ≤ length s) (sym same) (has_numbers s rules).template.long;
       points = subst (λ s. octets s 31 34 * octets s 35 38 ≡ octets s 7 10) (sym same) (c.what_has_places.ensures.product Open s passes none);
     }
 

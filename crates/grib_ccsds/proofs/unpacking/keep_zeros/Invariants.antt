@@ -1,6 +1,0 @@
-use Rattle.std.proofs.Common.{replicate}
-use Rattle.grib_packing.specs.Coded.{point_of}
-use Rattle.grib_ccsds.proofs.unpacking.keep_zeros.Given as goal
-
-abbrev pub invariant-loop-value : goal.invariant-loop-value
-invariant-loop-value g l = g.K.Keeper.kept l.fn.keeper (replicate l._value (point_of 0)) l.kept

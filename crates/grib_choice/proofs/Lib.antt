@@ -1,4 +1,0 @@
-pub mod Walk
-pub mod PairSums
-pub mod Fewest
-pub mod Chosen

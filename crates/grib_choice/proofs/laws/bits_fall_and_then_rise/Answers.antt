@@ -1,5 +1,0 @@
-use Rattle.grib_choice.proofs.Walk.{convex}
-use Rattle.grib_choice.proofs.laws.bits_fall_and_then_rise.Goals as goal
-
-pub returns : goal.returns
-returns c kept k codes = convex kept k codes

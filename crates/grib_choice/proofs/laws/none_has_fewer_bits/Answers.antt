@@ -1,5 +1,0 @@
-use Rattle.grib_choice.proofs.Chosen.{chosen-least}
-use Rattle.grib_choice.proofs.laws.none_has_fewer_bits.Goals as goal
-
-pub returns : goal.returns
-returns c coding skip codes choice is = chosen-least coding skip codes choice is

@@ -1,0 +1,9 @@
+pub mod Spans
+pub mod Bounds
+pub mod Below
+pub mod Ends
+pub mod Marked
+pub mod Reserved
+pub mod Worded
+pub mod AsWords
+pub mod Placed

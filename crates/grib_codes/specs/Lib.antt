@@ -1,0 +1,4 @@
+pub mod Span
+pub mod Words
+pub mod FieldCodes
+pub mod KeptWords

@@ -1,5 +1,0 @@
-use Rattle.std.proofs.Common.{append_assoc}
-use Rattle.grib_command.proofs.notes.text_of_demotion.Goals as goal
-
-pub returns : goal.returns
-returns c = simp append_assoc c.in_ok-text.ensures.ok

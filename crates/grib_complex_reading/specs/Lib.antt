@@ -1,0 +1,13 @@
+pub mod Representation
+pub mod Told
+pub mod Tells
+pub mod Laws
+pub mod Descriptors
+pub mod Range
+pub mod Feeding
+pub mod Alike
+pub mod Order
+pub mod Running
+pub mod Follows
+pub mod Reach
+pub mod Same

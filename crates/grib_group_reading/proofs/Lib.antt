@@ -1,0 +1,12 @@
+pub mod Plain
+pub mod Taken
+pub mod Coded
+pub mod Runs
+pub mod CodeRuns
+pub mod Listed
+pub mod Moves
+pub mod Places
+pub mod Listing
+pub mod Reading
+pub mod Faults
+pub mod Pieces

@@ -1,5 +1,0 @@
-use Rattle.grib_mapped.proofs.Folds.{each}
-use Rattle.grib_mapped.proofs.laws.each_code_once.Goals as goal
-
-pub returns-clause-each : goal.returns-clause-each
-returns-clause-each c most before code b within = each most before code b within

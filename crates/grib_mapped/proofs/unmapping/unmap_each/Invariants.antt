@@ -1,5 +1,0 @@
-use Rattle.grib_mapped.proofs.Blocks.{SoFar}
-use Rattle.grib_mapped.proofs.unmapping.unmap_each.Given as goal
-
-abbrev pub invariant-loop-place : goal.invariant-loop-place
-invariant-loop-place l = SoFar l.most l.fn.before l.initial.codes l.codes l.place l.before

@@ -1,7 +1,0 @@
-use Rattle.std.proofs.Common.{◌≡◌, ◌-◌, ◌++◌, map}
-use Rattle.grib_bits.specs.Bits.{bits}
-use Rattle.grib_simple.specs.Part.{plain_from}
-use Rattle.grib_simple.proofs.numbers.push_last.Given as goal
-
-abbrev pub invariant-loop-index : goal.invariant-loop-index
-invariant-loop-index g l = l.items.items ≡ l.initial.items.items ++ map g.T.Unpacked.unpacked (plain_from (bits l.octets) l.bits l.from (l.index - l.from))

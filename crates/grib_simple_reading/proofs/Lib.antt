@@ -1,0 +1,5 @@
+pub mod Lanes
+pub mod Unpacking
+pub mod Accepted
+pub mod Masked
+pub mod Plain

@@ -1,0 +1,20 @@
+use Rattle.std.proofs.Common.{◌*◌, ap₂, drop, ◌<◌, ◌^◌, ℕ, subst, sym, arith}
+use Rattle.grib_bits.specs.Bits.{bits}
+use Rattle.grib_bits.proofs.WordNumbers.{number-lt_48}
+use Rattle.grib_simple_reading.proofs.Unpacking.{pushed, pushed_none, pushed_all}
+use Rattle.grib_simple_reading.proofs.numbers.push_last.Goals as goal
+
+pub of-requires : goal.of-requires
+of-requires g c =
+    subst (λ (n : ℕ). n < 2 ^ 48) (sym c.get_bits.ensures) (number-lt_48 c.args.bits (drop (c.from.result * c.from-in-loop-index.result) (bits c.args.octets.now)) c.requires.width)
+
+pub loop-index-init : goal.loop-index-init
+loop-index-init g c = pushed_none g.T.Unpacked.unpacked (bits c.args.octets.now) c.args.bits c.args.from c.args.items.now.items
+
+pub loop-index-preserved : goal.loop-index-preserved
+loop-index-preserved g c =
+    pushed g.T.Unpacked.unpacked (bits c.args.octets.now) c.args.bits c.args.from c.loop-index.index _ _ c.of.result c.args.items.now.items c.loop-index.items.items c.push.new.self.items
+    (omega arith) c.loop-index.invariant (ap₂ ◌*◌ c.from.ensures c.from-in-loop-index.ensures) c.get_bits.ensures c.of.ensures c.in_ok-push.ensures.items
+
+pub returns : goal.returns
+returns g c = pushed_all g.T.Unpacked.unpacked (bits c.args.octets.now) c.args.bits c.args.from c.loop-index.index c.args.to c.args.items.now.items c.loop-index.items.items (omega arith) c.loop-index.invariant

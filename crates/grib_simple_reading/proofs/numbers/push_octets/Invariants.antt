@@ -1,0 +1,7 @@
+use Rattle.std.proofs.Common.{◌≡◌, ◌*◌, ◌++◌}
+use Rattle.grib_bits.specs.Bits.{bits}
+use Rattle.grib_bits.specs.Plain.{plain}
+use Rattle.grib_simple_reading.proofs.numbers.push_octets.Given as goal
+
+abbrev pub invariant-loop-eight : goal.invariant-loop-eight
+invariant-loop-eight l = l.numbers.items ≡ l.initial.numbers.items ++ plain (bits l.octets) 8 (8 * l.eight)
