@@ -13,7 +13,7 @@ ghost use Rattle.grib1_sections.specs.Held.{HoldsBits};
 
 use grib_base::List;
 use grib_bitmap::Mask;
-use grib_bits::{u16_at, u32_at, u8_at};
+use grib_bits::{u8_at, u16_at, u32_at};
 use grib_packing::{Column, Point};
 use grib_simple_reading::{masked_points, unpack_points};
 use std::alloc::{AllocError, Global};

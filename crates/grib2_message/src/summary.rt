@@ -20,8 +20,7 @@ use crate::Message;
 use grib_base::Section;
 use grib_bits::{u8_at, u16_at, u32_at};
 use grib_packing::is_opaque;
-use grib2_sections::instant_shift;
-use grib2_sections::{Identification, read_identification};
+use grib2_sections::{Identification, instant_shift, read_identification};
 
 /// What describes a field of a message of edition 2 (WMO-No. 306, Volume I.2, FM 92 GRIB edition 2): octet
 /// 7 of Section 0, and numbers of the sections in force where the field ends, as they stand. It has no

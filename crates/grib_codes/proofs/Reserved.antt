@@ -1,5 +1,5 @@
 -- Codes that points have, of which up to two are reserved.
-use Rattle.std.proofs.Common.{◌≡◌, ℕ, suc, ◌+◌, ◌^◌, ◌<◌, ◌≤◌, Bool, true, false, cond, Some, None, ℤ, pos, negsuc, nat_abs, nat_lt, List, [], ◌∷◌, length, map, All, refl, ap, arith, ltb-false}
+use Rattle.std.proofs.Common.{◌≡◌, ℕ, suc, ◌+◌, ◌^◌, ◌<◌, ◌≤◌, ◌||◌, Bool, true, false, cond, Some, None, ℤ, pos, negsuc, nat_abs, nat_lt, List, [], ◌∷◌, length, map, All, refl, ap, arith, ltb-false}
 use Rattle.std.specs.List.{list_any}
 use Rattle.std.proofs.lemmas.List.{length-map}
 use Rattle.std.proofs.lemmas.List.Elements.{All-nil, All-cons, All-head, All-tail}

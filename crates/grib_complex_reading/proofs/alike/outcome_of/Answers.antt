@@ -3,12 +3,12 @@ use Rattle.grib_base.specs.declared.code.Code.{Code}
 use Rattle.grib_base.specs.Rules.{first_place}
 use Rattle.grib_packing.specs.Differences.{NoNumber}
 use Rattle.grib_packing.specs.Entries.{is_out_of_range}
-use Rattle.grib_complex.specs.Alike.{place_beyond, refusal_of_lists}
-use Rattle.grib_complex.specs.Descriptors.{descriptors_in}
-use Rattle.grib_complex.specs.Told.{After, told}
-use Rattle.grib_complex.proofs.Uniform.{codes_are}
-use Rattle.grib_complex.proofs.alike.outcome_of.Goals as goal
-use Rattle.grib_complex.proofs.alike.outcome_of.Goals.{After-place_of_same-place}
+use Rattle.grib_complex_reading.specs.Alike.{place_beyond, refusal_of_lists}
+use Rattle.grib_complex_reading.specs.Descriptors.{descriptors_in}
+use Rattle.grib_complex_reading.specs.Told.{After, told}
+use Rattle.grib_complex_reading.proofs.Uniform.{codes_are}
+use Rattle.grib_complex_reading.proofs.alike.outcome_of.Goals as goal
+use Rattle.grib_complex_reading.proofs.alike.outcome_of.Goals.{After-place_of_same-place}
 
 -- the lists are not refused
 lists_pass : (c : After-place_of_same-place) (octets : List ℕ) → refusal_of_lists c.args.complex.now c.args.start c.args.length octets ≡ None
