@@ -68,9 +68,9 @@ fn take_values(coded: Coded, section7: &Section<'_>, points: Points) -> Result<P
     if coded.simple.bits == 0 {
         return Ok(keep_zeros(points, values));
     }
+    let length = length_of_section(section7);
     let fed = FedBlocks::start(&coded.coding, values, points);
     let fed = fed.push(&section7.octets[5..]);
-    let length = length_of_section(section7);
     match fed.finish() {
         Ok(points) => Ok(points),
         Err(fault) => Err(fault_of_blocks(fault, section7.start, u64::from(length))),
