@@ -26,8 +26,8 @@ kept_at_once kept s5 keeper after template none all =
     let taken = λ (s7 : List ℕ). zeros_taken kept s5 s7 (bit_width s5) (value_count s5) keeper after template refl none refl all in
     record {
       passes = λ s7. (taken s7).0;
-      counted = λ s7. (taken s7).1.1;
-      points = λ s7. (taken s7).1.0;
+      counted = λ s7. (taken s7).2;
+      points = λ s7. (taken s7).1;
     }
 
 -- ---- the column of the points that were kept
