@@ -19,9 +19,9 @@ use Rattle.grib_params.specs.Surfaces.{SurfaceEntries, SurfaceVerdict, surface_v
 use Rattle.grib_params.specs.declared.table.TheConstants.{MOST_OCTETS}
 use Rattle.grib_names.specs.Table as names
 use Rattle.grib_names.specs.Table.{NameEntries, NameVerdict, names_verdict, names_verdict_from, IsNamesFault}
-use Rattle.grib_table.specs.Taken.{IsSaid, Takes}
+use Rattle.grib_table.specs.Taken.{Takes}
 use Rattle.grib_table.specs.Together.{ReadsWhere}
-use Rattle.grib_table.specs.Tabled.{Tabled, Good, Refused, tabled, tabled_by, surfaces_by, names_by, parameters_of, surfaces_of, names_of, ReadsTable, stop_of_read, stop_of_fault}
+use Rattle.grib_table.specs.Tabled.{Tabled, Good, Refused, tabled, tabled_by, surfaces_by, names_by, parameters_of, surfaces_of, names_of, stop_of_read, stop_of_fault}
 use Rattle.grib_table.specs.declared.stop.TableStop.{TableStop}
 use Rattle.grib_table.specs.declared.stop.TableStop.TheVariants.{Refused as Refuses, ShelfFault, Memory}
 use Rattle.grib_table.specs.declared.reading.TheConstants.{MOST}

@@ -19,11 +19,11 @@ returns-in-Err-clause-read g c =
 pub returns-in_err-names-clause-read : goal.returns-in_err-names-clause-read
 returns-in_err-names-clause-read g c =
     by_names (g.H.Shelf.contents c.args.shelf.now) (asked (option_copied c.args.parameters) (option_copied c.args.surfaces) (option_copied c.args.names)) c.in_ok-parameters.parameters (parameters_stand _ _ _ c.in_ok-parameters.ensures.read)
-    (g.H.Shelf.contents c.table_under.new.shelf) c.in_ok-parameters.ensures.kept c.in-Ok.surfaces (surfaces_stand _ _ _ c.in-Ok.ensures.read) (g.H.Shelf.contents c.table_under-in_ok-parameters.new.shelf) c.in-Ok.ensures.kept
+    (g.H.Shelf.contents c.table_under.new.shelf) c.in_ok-parameters.ensures.kept c.in-Ok.surfaces (surfaces_stand _ _ _ c.in-Ok.ensures.read) (g.H.Shelf.contents c.table_under-2.new.shelf) c.in-Ok.ensures.kept
     c.from_residual-in_err-names.result c.in_err-names.field-0.0 (names_stand _ _ _ c.in_err-names.ensures.read) c.from_residual-in_err-names.ensures.1
 
 pub returns-clause-read : goal.returns-clause-read
 returns-clause-read g c =
     all_good (g.H.Shelf.contents c.args.shelf.now) (asked (option_copied c.args.parameters) (option_copied c.args.surfaces) (option_copied c.args.names)) c.in_ok-parameters.parameters (parameters_stand _ _ _ c.in_ok-parameters.ensures.read)
-    (g.H.Shelf.contents c.table_under.new.shelf) c.in_ok-parameters.ensures.kept c.in-Ok.surfaces (surfaces_stand _ _ _ c.in-Ok.ensures.read) (g.H.Shelf.contents c.table_under-in_ok-parameters.new.shelf) c.in-Ok.ensures.kept
+    (g.H.Shelf.contents c.table_under.new.shelf) c.in_ok-parameters.ensures.kept c.in-Ok.surfaces (surfaces_stand _ _ _ c.in-Ok.ensures.read) (g.H.Shelf.contents c.table_under-2.new.shelf) c.in-Ok.ensures.kept
     c.in_ok-names.names (names_stand _ _ _ c.in_ok-names.ensures.read)
