@@ -2,7 +2,7 @@
 use Rattle.std.proofs.Common.{◌≡◌, ℕ, ◌+◌, ◌-◌, ◌<◌, ◌≤◌, Bool, cond, Option, Some, None, option_map, List, [], ◌∷◌, ◌++◌, length, sum_by, inl, inr, refl, sym, ap, ◌∙◌, arith, subst, lt-ltb}
 use Rattle.std.proofs.lemmas.Bool.{cases_eq}
 use Rattle.std.proofs.lemmas.List.FromFn.{length-map-range_with_len, sum_by-map-range_with_len_more}
-use Rattle.grib_base.proofs.Firsts.{none_each, none_more, first_split}
+use Rattle.grib_base.proofs.Firsts.{none_each, none_more, none_later, first_split}
 use Rattle.grib_packing.specs.Misfits.{Misfit}
 use Rattle.grib_rescan.specs.declared.cause.GridCause.{GridCause}
 use Rattle.grib_base.specs.Rules.{first_fault, or_later, first_among}
