@@ -5,7 +5,7 @@ use Rattle.grib_bits.specs.Binary32.{ieee_exponent}
 use Rattle.grib_packing.specs.declared.column.Column.{Column}
 use Rattle.grib_packing.specs.Packing.{reference_word}
 use Rattle.grib_packing.proofs.Packings.{packing_passes}
-use Rattle.grib2_message.specs.Grid.{grid_points}
+use Rattle.grib2_grids.specs.Grid.{grid_points}
 use Rattle.grib2_message.specs.Fields.{part_octets, column_of}
 use Rattle.grib2_message.specs.Message.{FieldReads}
 
