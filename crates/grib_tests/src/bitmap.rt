@@ -60,38 +60,6 @@ fn masks_of_a_message(rt: HostRuntime) {
     assert_eq!(rt; ones(&all), 4);
 }
 
-#[test]
-fn refusals_come_in_their_order(rt: HostRuntime) -> Result<(), Fail> {
-    let three = Mask::all(rt.alloc(), 3)?;
-    let own = [0, 0, 0, 7, 6, 0, 0xb0];
-    let same = [0, 0, 0, 6, 6, 254];
-    let read_with = |octets: &[u8], values: u32, earlier: Option<&Mask>| {
-        refused(&rt, read(&rt, rt.alloc(), octets, 4, values, earlier))
-    };
-    assert_eq!(rt;
-        read_with(&[0, 0, 0, 5, 6], 4, None),
-        (165, Reason::SectionLength, 5)
-    );
-    assert_eq!(rt;
-        read_with(&[0, 0, 0, 6, 6, 7], 4, None),
-        (170, Reason::BitmapIndicator, 7)
-    );
-    assert_eq!(rt;
-        read_with(&same, 3, None),
-        (170, Reason::NoEarlierBitmap, 254)
-    );
-    assert_eq!(rt;
-        read_with(&[0, 0, 0, 6, 6, 0], 4, None),
-        (165, Reason::BitmapSize, 6)
-    );
-    assert_eq!(rt;
-        read_with(&same, 3, Some(&three)),
-        (170, Reason::BitmapSize, 3)
-    );
-    assert_eq!(rt; read_with(&own, 4, None), (170, Reason::ValueCount, 3));
-    Ok(())
-}
-
 /// Runs of 5, 70, 1, 64, 3, 1, 2 and 47 points, left out and present in turn. Ones follow the last.
 const RUNS: [u8; 31] = [
     0, 0, 0, 31, 6, 0, 0x07, 0xff, 0xff, 0xff, 0xff, 0xff, 0xff, 0xff, 0xff, 0xef, 0xff, 0xff,
@@ -110,14 +78,6 @@ fn runs_end_where_another_begins(rt: HostRuntime) -> Result<(), Fail> {
         present = !present;
     }
     assert_eq!(rt; place, mask.len());
-    Ok(())
-}
-
-#[test]
-fn full_masks_of_each_length(rt: HostRuntime) -> Result<(), Fail> {
-    for points in 0..131 {
-        assert_eq!(rt; ones(&Mask::all(rt.alloc(), points)?), points);
-    }
     Ok(())
 }
 

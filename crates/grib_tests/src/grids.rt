@@ -5,11 +5,9 @@ ghost use Rattle.std.specs.Prelude.{IfOk};
 ghost use Rattle.grib2_grids.specs.Writable.{IsWritable};
 
 use crate::given::{put, put_length, section};
-use grib_base::{Fault, ReadFault, Reason};
+use grib_base::ReadFault;
 use grib_bits::BitWriter;
-use grib2_grids::{
-    Gaussian, Grid, GridSection, Lambert, LatLon, Mercator, Polar, Rotation, read_grid, write_grid,
-};
+use grib2_grids::{Grid, GridSection, LatLon, read_grid, write_grid};
 use std::alloc::{AllocError, Global};
 use std::process::Abort;
 use std::test::Fail;
@@ -31,79 +29,6 @@ macro_rules! numbered_template {
         }
     };
 }
-
-const LAT_LON: LatLon = numbered_template!(LatLon {
-    basic: 0x2728_292a,
-    subdivisions: 0x2b2c_2d2e,
-    la1: 0x2f30_3132,
-    lo1: 0x3334_3536,
-    flags: 55,
-    la2: 0x3839_3a3b,
-    lo2: 0x3c3d_3e3f,
-    di: 0x4041_4243,
-    dj: 0x4445_4647,
-    scanning: 72,
-});
-
-const ROTATION: Rotation = Rotation {
-    pole_la: 0x494a_4b4c,
-    pole_lo: 0x4d4e_4f50,
-    angle: 0x5152_5354,
-};
-
-const MERCATOR: Mercator = numbered_template!(Mercator {
-    la1: 0x2728_292a,
-    lo1: 0x2b2c_2d2e,
-    flags: 47,
-    lad: 0x3031_3233,
-    la2: 0x3435_3637,
-    lo2: 0x3839_3a3b,
-    scanning: 60,
-    orientation: 0x3d3e_3f40,
-    di: 0x4142_4344,
-    dj: 0x4546_4748,
-});
-
-const POLAR: Polar = numbered_template!(Polar {
-    la1: 0x2728_292a,
-    lo1: 0x2b2c_2d2e,
-    flags: 47,
-    lad: 0x3031_3233,
-    lov: 0x3435_3637,
-    dx: 0x3839_3a3b,
-    dy: 0x3c3d_3e3f,
-    centre: 64,
-    scanning: 65,
-});
-
-const LAMBERT: Lambert = numbered_template!(Lambert {
-    la1: 0x2728_292a,
-    lo1: 0x2b2c_2d2e,
-    flags: 47,
-    lad: 0x3031_3233,
-    lov: 0x3435_3637,
-    dx: 0x3839_3a3b,
-    dy: 0x3c3d_3e3f,
-    centre: 64,
-    scanning: 65,
-    latin1: 0x4243_4445,
-    latin2: 0x4647_4849,
-    pole_la: 0x4a4b_4c4d,
-    pole_lo: 0x4e4f_5051,
-});
-
-const GAUSSIAN: Gaussian = numbered_template!(Gaussian {
-    basic: 0x2728_292a,
-    subdivisions: 0x2b2c_2d2e,
-    la1: 0x2f30_3132,
-    lo1: 0x3334_3536,
-    flags: 55,
-    la2: 0x3839_3a3b,
-    lo2: 0x3c3d_3e3f,
-    di: 0x4041_4243,
-    n: 0x4445_4647,
-    scanning: 72,
-});
 
 /// A section of this length in which octet n from 15 on is n, but for two rows of two points.
 fn numbered(alloc: Global, template: u8, length: u8) -> Result<Vec<u8>, AllocError> {
@@ -146,31 +71,6 @@ fn written(alloc: Global, value: &GridSection) -> Result<Vec<u8>, Fail>
     out.reserve(8 * room)?;
     write_grid(value, &mut out);
     Ok(out.into_octets())
-}
-
-/// The templates, each with the least length of its section in octets.
-const GRIDS: [(u8, u8, Grid); 6] = [
-    (0, 72, Grid::LatLon(LAT_LON)),
-    (1, 84, Grid::Rotated(LAT_LON, ROTATION)),
-    (10, 72, Grid::Mercator(MERCATOR)),
-    (20, 65, Grid::Polar(POLAR)),
-    (30, 81, Grid::Lambert(LAMBERT)),
-    (40, 72, Grid::Gaussian(GAUSSIAN)),
-];
-
-#[test]
-fn templates_are_read_and_written(rt: HostRuntime) -> Result<(), Fail> {
-    for (template, length, grid) in GRIDS {
-        let octets = numbered(rt.alloc(), template, length)?;
-        let value = read(&rt, rt.alloc(), octets.as_slice())?;
-        assert_eq!(rt; value.grid, grid, "template {template}");
-        assert_eq!(rt; value.points, 4);
-        assert_eq!(rt; (value.list_octets, value.list_meaning), (0, 7));
-        assert_eq!(rt; value.rows.as_slice().len(), 0);
-        let again = rewritten(&rt, rt.alloc(), octets.as_slice())?;
-        assert_eq!(rt; again.as_slice(), octets.as_slice(), "template {template}");
-    }
-    Ok(())
 }
 
 /// The octets of two rows with 258 and 3 points, and of two with 1 and 3, by the octets of an entry.
@@ -224,52 +124,5 @@ fn a_worked_section_is_read(rt: HostRuntime) -> Result<(), Fail> {
         (grid.di, grid.dj, grid.scanning),
         (1_000_000, 1_000_000, 0)
     );
-    Ok(())
-}
-
-/// What the octets of the worked section from `at` on, counted from 0, become, with a list of rows
-/// after them; and the refusal.
-const REFUSED: [(u8, &[u8], &[u8], u64, Reason, u64); 10] = [
-    (5, &[1], &[], 43, Reason::GridSource, 1),
-    (12, &[0, 2], &[], 50, Reason::GridTemplate, 2),
-    (12, &[0, 30], &[], 38, Reason::SectionLength, 72),
-    (10, &[1, 3], &[], 49, Reason::ListShape, 3),
-    (10, &[5, 1], &[], 48, Reason::ListShape, 5),
-    (10, &[2, 1], &[0, 1, 0], 110, Reason::ListShape, 2),
-    (10, &[2, 1, 0, 40], &[0, 1, 0, 2], 44, Reason::PointCount, 3),
-    (
-        10,
-        &[4, 1],
-        &[0xff; 8],
-        44,
-        Reason::PointCount,
-        8_589_934_590,
-    ),
-    (30, &[0, 0, 0, 3], &[], 44, Reason::PointCount, 6),
-    (
-        30,
-        &[0xff; 8],
-        &[],
-        44,
-        Reason::PointCount,
-        18_446_744_065_119_617_025,
-    ),
-];
-
-#[test]
-fn sections_are_refused(rt: HostRuntime) -> Result<(), Fail> {
-    for (at, new, behind, octet, reason, detail) in REFUSED {
-        let fault = Fault {
-            octet,
-            reason,
-            detail,
-        };
-        let mut octets = WORKED.to_vec(rt.alloc())?;
-        octets.extend_from_slice(behind)?;
-        put_length(&rt, &mut octets);
-        put(&mut octets, at, new);
-        let refused = read(&rt, rt.alloc(), octets.as_slice()).err();
-        assert_eq!(rt; refused, Some(ReadFault::Refused(fault)));
-    }
     Ok(())
 }

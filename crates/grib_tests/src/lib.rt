@@ -12,13 +12,9 @@ mod bits;
 #[cfg(test)]
 mod decimal;
 #[cfg(test)]
-mod dyadic;
-#[cfg(test)]
 mod given;
 #[cfg(test)]
 mod grids;
-#[cfg(test)]
-mod keys;
 #[cfg(test)]
 mod outside;
 #[cfg(test)]

@@ -2,7 +2,6 @@
 
 use grib_params::{Table, TableFault, Target};
 use std::alloc::Global;
-use std::fmt::Write;
 use std::test::Fail;
 
 // The fault of a text, `None` where it is a table.
@@ -29,21 +28,6 @@ fn centre_before_every_centre(rt: HostRuntime) -> Result<(), Fail> {
     assert_eq!(rt; table.lookup(7, 2, 11), Some(target(0)));
     assert_eq!(rt; table.lookup(7, 3, 11), None);
     assert_eq!(rt; table.lookup(98, 2, 12), None);
-    Ok(())
-}
-
-#[test]
-fn all_parts_of_a_target(rt: HostRuntime) -> Result<(), Fail> {
-    let table = Table::read(rt.alloc(), b"255,0,1,10,191,255,28,3".as_slice())?;
-    let whole = Target {
-        discipline: 10,
-        category: 191,
-        number: 255,
-        master: 28,
-        local: 3,
-    };
-    assert_eq!(rt; table.lookup(255, 0, 1), Some(whole));
-    assert_eq!(rt; table.lookup(254, 0, 1), None);
     Ok(())
 }
 

@@ -8,7 +8,7 @@ ghost use Rattle.grib2_products.specs.Spelled.{template_of, range_count};
 ghost use Rattle.grib2_products.specs.Writable.{IsWritable};
 
 use crate::given::{put, put_length, section};
-use grib_base::{Fault, ReadFault, Reason};
+use grib_base::ReadFault;
 use grib_bits::BitWriter;
 use grib2_products::{Instant, Product, ProductSection, Spec, read_product, write_product};
 use std::alloc::{AllocError, Global};
@@ -125,21 +125,6 @@ fn templates_are_written_back(rt: HostRuntime) -> Result<(), Fail> {
 }
 
 #[test]
-fn an_ensemble_is_read(rt: HostRuntime) -> Result<(), Fail> {
-    let octets = numbered(rt.alloc(), 1, 37)?;
-    let value = read(&rt, rt.alloc(), octets.as_slice())?;
-    let Product::Ensemble(instant, ensemble) = value.product else {
-        return Err(Fail::from("no template 4.1"));
-    };
-    assert_eq!(rt; instant, INSTANT);
-    assert_eq!(rt;
-        (ensemble.kind, ensemble.perturbation, ensemble.size),
-        (35, 36, 37)
-    );
-    Ok(())
-}
-
-#[test]
 fn an_interval_is_read(rt: HostRuntime) -> Result<(), Fail> {
     let mut octets = numbered(rt.alloc(), 11, 49)?;
     put(&mut octets, 44, &[2]);
@@ -186,56 +171,5 @@ fn an_interval_is_read(rt: HostRuntime) -> Result<(), Fail> {
         increment: 0,
     };
     assert_eq!(rt; interval.specs.as_slice(), [mean, greatest].as_slice());
-    Ok(())
-}
-
-/// Section 4 of a worked message: a forecast of temperature for 6 hours ahead, 2 m above ground.
-const WORKED: [u8; 34] = [
-    0x00, 0x00, 0x00, 0x22, 0x04, 0x00, 0x00, 0x00, 0x00, 0x00, 0x00, 0x02, 0xff, 0x01, 0x00, 0x00,
-    0x00, 0x01, 0x00, 0x00, 0x00, 0x06, 0x67, 0x00, 0x00, 0x00, 0x00, 0x02, 0xff, 0xff, 0xff, 0xff,
-    0xff, 0xff,
-];
-
-#[test]
-fn a_worked_section_is_read(rt: HostRuntime) -> Result<(), Fail> {
-    let value = read(&rt, rt.alloc(), &WORKED)?;
-    let Product::Instant(instant) = value.product else {
-        return Err(Fail::from("no template 4.0"));
-    };
-    assert_eq!(rt;
-        (instant.category, instant.number, instant.process),
-        (0, 0, 2)
-    );
-    assert_eq!(rt; (instant.unit, instant.time), (1, 6));
-    assert_eq!(rt;
-        (instant.surface1, instant.scale1, instant.value1),
-        (103, 0, 2)
-    );
-    assert_eq!(rt; instant.surface2, 255);
-    assert_eq!(rt; value.coordinates.as_slice().len(), 0);
-    Ok(())
-}
-
-/// What the octets of the worked section from `at` on, counted from 0, become; and the refusal.
-const REFUSED: [(u8, &[u8], u64, Reason, u64); 4] = [
-    (7, &[0, 5], 117, Reason::ProductTemplate, 5),
-    (7, &[0, 8], 110, Reason::SectionLength, 34),
-    (5, &[0, 1], 110, Reason::SectionLength, 34),
-    (5, &[0xff, 0xff], 110, Reason::SectionLength, 34),
-];
-
-#[test]
-fn sections_are_refused(rt: HostRuntime) -> Result<(), Fail> {
-    for (at, new, octet, reason, detail) in REFUSED {
-        let fault = Fault {
-            octet,
-            reason,
-            detail,
-        };
-        let mut octets = WORKED.to_vec(rt.alloc())?;
-        put(&mut octets, at, new);
-        let refused = read(&rt, rt.alloc(), octets.as_slice()).err();
-        assert_eq!(rt; refused, Some(ReadFault::Refused(fault)));
-    }
     Ok(())
 }

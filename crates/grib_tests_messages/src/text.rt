@@ -38,21 +38,6 @@ fn line_of_field(alloc: Global, octets: &[u8], number: u64, field: u32) -> Resul
     Ok(list_line(alloc, &message, number, field)?)
 }
 
-#[test]
-fn field_has_its_line(rt: HostRuntime) -> Result<(), Fail> {
-    let line = line_of_field(rt.alloc(), &PLAIN, 1, 1)?;
-    assert_eq!(rt;
-        line.as_slice(),
-        b"1.1 ed=2 centre=98 time=2024-01-15T12:00:00 grid=3.0 points=4 product=4.0 param=0.0.0 unit=1 ahead=6 surface=103:0:2 packing=5.0 bits=8 values=4\n".as_slice()
-    );
-    let line = line_of_field(rt.alloc(), &PLAIN, 12, 1)?;
-    assert_eq!(rt;
-        line.as_slice(),
-        b"12.1 ed=2 centre=98 time=2024-01-15T12:00:00 grid=3.0 points=4 product=4.0 param=0.0.0 unit=1 ahead=6 surface=103:0:2 packing=5.0 bits=8 values=4\n".as_slice()
-    );
-    Ok(())
-}
-
 /// A leap second of an unknown centre.
 const LEAP_SECOND: &[u8] =
     b"\0\0\0\x15\x01\xff\xff\0\0\x02\0\x01\x07\xe8\x0c\x1f\x17\x3b\x3c\0\x01";

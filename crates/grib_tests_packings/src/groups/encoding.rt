@@ -8,8 +8,6 @@ use std::test::Fail;
 
 const PRIMARY: Code = Code::Primary;
 
-const SECONDARY: Code = Code::Secondary;
-
 /// The layout of the first worked message.
 const LAYOUT: Layout = Layout {
     groups: 1,
@@ -40,54 +38,6 @@ fn a_primary_missing_value(rt: HostRuntime) -> Result<(), Fail> {
 }
 
 #[test]
-fn marks_alone(rt: HostRuntime) -> Result<(), Fail> {
-    let words = [
-        word_of(PRIMARY),
-        word_of(SECONDARY),
-        word_of(PRIMARY),
-        word_of(SECONDARY),
-    ];
-    let codes = Codes::of(&words, 2);
-    let mut out = BitWriter::new(rt.alloc());
-    out.reserve(32)?;
-    let layout = Layout {
-        reference_bits: 2,
-        width_bits: 1,
-        last_length: 4,
-        management: 2,
-        ..LAYOUT
-    };
-    encode_groups(&codes, &[4], &layout, &mut out);
-    let octets = out.into_octets();
-    assert_eq!(rt; octets.as_slice(), [0x00, 0x80, 0x0c, 0xa0].as_slice());
-    Ok(())
-}
-
-#[test]
-fn a_number_that_would_be_all_ones(rt: HostRuntime) -> Result<(), Fail> {
-    let words = [
-        word_of(Code::Present(7)),
-        word_of(PRIMARY),
-        word_of(Code::Present(7)),
-        word_of(Code::Present(7)),
-    ];
-    let codes = Codes::of(&words, 1);
-    let mut out = BitWriter::new(rt.alloc());
-    out.reserve(32)?;
-    let layout = Layout {
-        reference_bits: 4,
-        width_bits: 1,
-        last_length: 4,
-        management: 1,
-        ..LAYOUT
-    };
-    encode_groups(&codes, &[4], &layout, &mut out);
-    let octets = out.into_octets();
-    assert_eq!(rt; octets.as_slice(), [0x70, 0x80, 0x0c, 0x40].as_slice());
-    Ok(())
-}
-
-#[test]
 fn a_group_of_width_0_with_known_references_and_widths(rt: HostRuntime) -> Result<(), Fail> {
     let words = [
         word_of(Code::Present(0)),
@@ -110,31 +60,6 @@ fn a_group_of_width_0_with_known_references_and_widths(rt: HostRuntime) -> Resul
     encode_measured_groups(&codes, &[2, 2], &known, &layout, &mut out);
     let octets = out.into_octets();
     let expected = [0x02, 0xc0, 0x0c, 0x04, 0x10, 0xa0];
-    assert_eq!(rt; octets.as_slice(), expected.as_slice());
-    Ok(())
-}
-
-#[test]
-fn numbers_of_eight_bits(rt: HostRuntime) -> Result<(), Fail> {
-    let words = [
-        word_of(Code::Present(6)),
-        word_of(Code::Present(126)),
-        word_of(Code::Present(65)),
-        word_of(Code::Present(171)),
-    ];
-    let codes = Codes::of(&words, 0);
-    let mut out = BitWriter::new(rt.alloc());
-    out.reserve(56)?;
-    let layout = Layout {
-        reference_bits: 8,
-        width_bits: 4,
-        last_length: 4,
-        management: 0,
-        ..LAYOUT
-    };
-    encode_groups(&codes, &[4], &layout, &mut out);
-    let octets = out.into_octets();
-    let expected = [0x06, 0x80, 0x0c, 0x00, 0x78, 0x3b, 0xa5];
     assert_eq!(rt; octets.as_slice(), expected.as_slice());
     Ok(())
 }
