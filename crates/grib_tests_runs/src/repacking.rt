@@ -1,6 +1,5 @@
 //! `repack` and `make` where a call of a device fails.
 
-use crate::sections::message;
 use grib_engine::Outcome;
 use grib_test_runs::{CALM, Failing, run_over};
 use std::alloc::{AllocError, Global};
