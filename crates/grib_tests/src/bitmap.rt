@@ -3,7 +3,7 @@
 
 use crate::given::section;
 use grib_base::{ReadFault, Reason};
-use grib_bitmap::{Mask, Run, ones, read_mask, write_mask};
+use grib_bitmap::{Mask, ones, read_mask, write_mask};
 use grib_bits::BitWriter;
 use std::alloc::Global;
 use std::process::Abort;
@@ -65,21 +65,6 @@ const RUNS: [u8; 31] = [
     0, 0, 0, 31, 6, 0, 0x07, 0xff, 0xff, 0xff, 0xff, 0xff, 0xff, 0xff, 0xff, 0xef, 0xff, 0xff,
     0xff, 0xff, 0xff, 0xff, 0xff, 0xf1, 0x3f, 0xff, 0xff, 0xff, 0xff, 0xff, 0xff,
 ];
-
-#[test]
-fn runs_end_where_another_begins(rt: HostRuntime) -> Result<(), Fail> {
-    let mask = accepted(&rt, read(&rt, rt.alloc(), &RUNS, 193, 182, None)).copy(rt.alloc())?;
-    let mut place = 0;
-    let mut present = false;
-    for length in [5, 70, 1, 64, 3, 1, 2, 47] {
-        assert!(rt; place < mask.len());
-        assert_eq!(rt; mask.run(place), Run { present, length });
-        place += length;
-        present = !present;
-    }
-    assert_eq!(rt; place, mask.len());
-    Ok(())
-}
 
 /// The octets that a mask gives.
 fn written(rt: &impl Abort, alloc: Global, mask: &Mask) -> Result<Vec<u8>, Fail> {

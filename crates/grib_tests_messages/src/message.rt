@@ -1,8 +1,8 @@
 //! Whole messages. The octets and what they hold are worked by hand from the tables of the manual.
 
 use crate::worked::{
-    FIRST_VALUES, FOUR_NUMBERS, FOUR_VALUES, GRID, IDENTIFICATION, NO_BITMAP, OWN_BITMAP, PLAIN,
-    PRODUCT, SAME_BITMAP, SECOND_VALUES, THREE_NUMBERS, message_of, read, readable,
+    FIRST_VALUES, FOUR_NUMBERS, FOUR_VALUES, GRID, IDENTIFICATION, NO_BITMAP, OWN_BITMAP, PRODUCT,
+    SAME_BITMAP, SECOND_VALUES, THREE_NUMBERS, message_of, read, readable,
 };
 use grib_base::{Fault, ReadFault, Reason};
 use grib_packing::Point;
@@ -49,24 +49,6 @@ fn holds(
     }
     let column = readable(message)?.column(alloc, field)?;
     Ok(column.points.as_slice() == points)
-}
-
-#[test]
-fn octets_may_follow(rt: HostRuntime) -> Result<(), Fail> {
-    let mut octets = PLAIN.to_vec(rt.alloc())?;
-    octets.extend_from_slice(b"GRIB7777")?;
-    let Ok(message) = read(rt.alloc(), octets.as_slice()) else {
-        return Err(Fail::from("refused"));
-    };
-    assert_eq!(rt; message.length(), 183);
-    assert_eq!(rt; message.octets().len(), 183);
-    assert_eq!(rt; message.fields(), 1);
-    assert_eq!(rt; start(&message, 1, 1), 17);
-    assert_eq!(rt; start(&message, 1, 2), 0);
-    assert_eq!(rt; start(&message, 1, 7), 171);
-    let points = [0, 1, 2, 255].map(Point::Scaled);
-    assert!(rt; holds(rt.alloc(), &message, 1, &points)?);
-    Ok(())
 }
 
 #[test]

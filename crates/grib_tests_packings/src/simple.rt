@@ -31,50 +31,6 @@ fn unpacked(
     unpack_numbers(alloc, octets, bits, count)
 }
 
-#[test]
-fn numbers_stand_one_after_another(rt: HostRuntime) -> Result<(), Fail> {
-    let single = [1, 1, 0, 1, 1, 1, 0, 0, 0, 1, 1, 0, 0, 0, 0, 1, 1, 0, 0];
-    let seven = [
-        0x6e, 0x18, 0x31, 0x66, 0x56, 0x4b, 0x04, 0x12, 0x0e, 0x6d, 0x64, 0x58, 0x0c, 0x43, 0x28,
-        0x64, 0x6a,
-    ];
-    let twelve = [
-        0xdc6, 0x18e, 0x6ad, 0x2c2, 0x121, 0xdb7, 0x258, 0x190, 0xd46, 0x4d4, 0x1f8, 0x719, 0x90a,
-    ];
-    let widest = [
-        0xdc618e6ad2c2,
-        0x121db7258190,
-        0xd464d41f8719,
-        0x90a98ecc8e72,
-        0xe3a304fc8694,
-        0x641ecd631547,
-        0x8c88c853c59f,
-        0x5eb0b8381271,
-        0x744a77fe720a,
-        0x3e60731aa66c,
-    ];
-    // The octets, the bits of a number, and the numbers.
-    let cases: [(usize, u32, &[u64]); 8] = [
-        (10, 1, &single),
-        (15, 7, &seven),
-        (20, 12, &twelve),
-        (60, 48, &widest),
-        (0, 0, &[0, 0, 0]),
-        (60, 0, &[0, 0]),
-        (60, 48, &[]),
-        (6, 16, &[0xdc61, 0x8e6a, 0xd2c2]),
-    ];
-    for (length, bits, expected) in cases {
-        assert!(rt; expected.len() <= 19);
-        let numbers = unpacked(&rt, rt.alloc(), length, bits, expected.len() as u32)?;
-        assert!(rt;
-            numbers.as_slice() == expected,
-            "{length} octets, {bits} bits"
-        );
-    }
-    Ok(())
-}
-
 /// A Section 7.
 const DATA: [u8; 11] = [0, 0, 0, 11, 7, 0x00, 0x1a, 0xbc, 0xff, 0xf0, 0x00];
 
@@ -83,6 +39,8 @@ fn points_of_half_octets(rt: HostRuntime) -> Result<(), Fail> {
     let points = unpack_points(rt.alloc(), &DATA[5..8], 4, 5)?;
     let expected = [0, 0, 1, 10, 11].map(Point::Scaled);
     assert_eq!(rt; points.as_slice(), expected.as_slice());
+    let numbers = unpack_numbers(rt.alloc(), &DATA[5..8], 4, 5)?;
+    assert_eq!(rt; numbers.as_slice(), [0, 0, 1, 10, 11].as_slice());
     Ok(())
 }
 

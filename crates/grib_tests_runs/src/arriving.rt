@@ -2,6 +2,7 @@
 
 use grib_base::{Fault, Reason, Refusal};
 use grib_engine::Outcome;
+use grib_io::Source;
 use grib_samples::{PLAIN, edited};
 use grib_test_runs::{CALM, Failing, run_over};
 use std::alloc::{AllocError, Global};
