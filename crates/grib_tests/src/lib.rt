@@ -8,8 +8,6 @@ mod base;
 #[cfg(test)]
 mod bitmap;
 #[cfg(test)]
-mod bits;
-#[cfg(test)]
 mod decimal;
 #[cfg(test)]
 mod given;
@@ -21,7 +19,5 @@ mod outside;
 mod params;
 #[cfg(test)]
 mod products;
-#[cfg(test)]
-mod sections;
 #[cfg(test)]
 mod writers;

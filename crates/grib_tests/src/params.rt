@@ -2,6 +2,7 @@
 
 use grib_params::{Table, TableFault, Target};
 use std::alloc::Global;
+use std::fmt::Write;
 use std::test::Fail;
 
 // The fault of a text, `None` where it is a table.
@@ -28,56 +29,6 @@ fn centre_before_every_centre(rt: HostRuntime) -> Result<(), Fail> {
     assert_eq!(rt; table.lookup(7, 2, 11), Some(target(0)));
     assert_eq!(rt; table.lookup(7, 3, 11), None);
     assert_eq!(rt; table.lookup(98, 2, 12), None);
-    Ok(())
-}
-
-#[test]
-fn text_that_is_too_large(rt: HostRuntime) -> Result<(), Fail> {
-    let over = vec![in rt.alloc(); b'\n'; 1_048_577]?;
-    assert_eq!(rt;
-        fault_of(rt.alloc(), over.as_slice()),
-        Some(TableFault::TooLarge)
-    );
-    let most = vec![in rt.alloc(); b'\n'; 1_048_576]?;
-    assert_eq!(rt; fault_of(rt.alloc(), most.as_slice()), None);
-    Ok(())
-}
-
-#[test]
-fn records_at_fault(rt: HostRuntime) -> Result<(), Fail> {
-    let texts: [(&[u8], TableFault); 12] = [
-        (
-            b"98,2,11,0,0,0,2,0\n98,2,11,0,0,0,2,0\n",
-            TableFault::Duplicate(2),
-        ),
-        (
-            b"98,2,11,0,0,0,2,0\n98,2,11,0,0,0,256,0\n",
-            TableFault::Row(2),
-        ),
-        (b"98,2,256,0,0,0,2,0", TableFault::Row(1)),
-        (b"98,2,007,0,0,0,2,0", TableFault::Row(1)),
-        (b"98,2,00,0,0,0,2,0", TableFault::Row(1)),
-        (b"98,2,11,0,0,0,2,18446744073709551616", TableFault::Row(1)),
-        (b"98,2\n", TableFault::Row(1)),
-        // A record of another length than the first is a fault of that record.
-        (b"98,2,11,0,0,0,2,0\n98,2\n", TableFault::Row(2)),
-        (
-            b"98,2,11,0,0,0,2,0\n98,2,12,0,0,0,2,0,\n",
-            TableFault::Row(2),
-        ),
-        (
-            b"\n\n98,2,11,0,0,0,2,0\n\n-1,2,11,0,0,0,2,0\n",
-            TableFault::Row(2),
-        ),
-        (b"98,2,11,0,0,0,2,0\n \n", TableFault::Row(2)),
-        (
-            b"centre,version,parameter,discipline,category,number,master,local\n",
-            TableFault::Row(1),
-        ),
-    ];
-    for (text, fault) in texts {
-        assert_eq!(rt; fault_of(rt.alloc(), text), Some(fault));
-    }
     Ok(())
 }
 

@@ -10,8 +10,6 @@ use grib2_message::Message;
 use std::alloc::{AllocError, Global};
 use std::test::Fail;
 
-mod assembling;
-
 /// A Gaussian grid of two rows, the first of one point, up to the number of points of the second.
 const REDUCED_GRID: &[u8] = b"\0\0\0\x4c\x03\0\0\0\0\x04\x02\x01\0\x28\x06\
 \xff\xff\xff\xff\xff\xff\xff\xff\xff\xff\xff\xff\xff\xff\xff\xff\xff\xff\xff\0\0\0\x02\
@@ -130,19 +128,4 @@ fn rows_of_a_grid_add_up(rt: HostRuntime) -> Result<(), Fail> {
     };
     assert_eq!(rt; refusal(rt.alloc(), octets.as_slice()), Some(expected));
     Ok(())
-}
-
-/// A message of this many fields, each 0 at every point, without its end mark.
-fn many(alloc: Global, total: u64, fields: usize) -> Result<Vec<u8>, AllocError> {
-    let mut octets = b"GRIB\0\0\0\x02".to_vec(alloc)?;
-    octets.extend_from_slice(&total.to_be_bytes())?;
-    octets.extend_from_slice(IDENTIFICATION)?;
-    octets.extend_from_slice(GRID)?;
-    for _field in 0..fields {
-        octets.extend_from_slice(PRODUCT)?;
-        octets.extend_from_slice(b"\0\0\0\x15\x05\0\0\0\x04\0\0\xc2\xed\x40\0\x80\x03\0\x01\0\0")?;
-        octets.extend_from_slice(NO_BITMAP)?;
-        octets.extend_from_slice(b"\0\0\0\x05\x07")?;
-    }
-    Ok(octets)
 }

@@ -1,4 +1,4 @@
-//! `values` and `coordinates` where a write fails.
+//! `values` where a write fails.
 
 use grib_engine::Outcome;
 use grib_samples::{PLAIN, between};
@@ -37,17 +37,6 @@ fn each_write_of_an_array_may_fail(rt: HostRuntime) -> Result<(), Fail> {
     Ok(())
 }
 
-// The latitudes and the longitudes of the plain message, row by row.
-const LATITUDES: &[u8] = b"\x00\x00\x00\x00\x00\x00\x49\x40\
-\x00\x00\x00\x00\x00\x00\x49\x40\
-\x00\x00\x00\x00\x00\x80\x48\x40\
-\x00\x00\x00\x00\x00\x80\x48\x40";
-
-const LONGITUDES: &[u8] = b"\x00\x00\x00\x00\x00\x00\x24\x40\
-\x00\x00\x00\x00\x00\x00\x26\x40\
-\x00\x00\x00\x00\x00\x00\x24\x40\
-\x00\x00\x00\x00\x00\x00\x26\x40";
-
 // The two arrays of a field of this shape.
 fn coordinates(
     alloc: Global,
@@ -58,16 +47,4 @@ fn coordinates(
     let mut octets = array(alloc, "<f8", shape, latitudes)?;
     octets.extend_from_slice(array(alloc, "<f8", shape, longitudes)?.as_slice())?;
     Ok(octets)
-}
-
-#[test]
-fn each_write_of_places_may_fail(rt: HostRuntime) -> Result<(), Fail> {
-    let whole = coordinates(rt.alloc(), "(2, 2)", LATITUDES, LONGITUDES)?;
-    for (output, from) in [(1, 0), (2, 50), (4, 150), (6, 250)] {
-        let failing = Failing { output, ..CALM };
-        let ran = run_over(rt.alloc(), "coordinates", &PLAIN, 50, failing)?;
-        let front = between(whole.as_slice(), 0, from);
-        assert!(rt; ran.gave(Outcome::WriteFault, front, ""));
-    }
-    Ok(())
 }
