@@ -19,32 +19,6 @@ need() { # COMMAND [WHERE IT IS FROM]
   command -v "$1" >/dev/null || fail "$1 is not in PATH${2:+ ($2)}"
 }
 
-# The program that does our work over and over, an argument for each kind of work.
-bench=$top/crates/grib_bench/out/grib_bench
-
-# Builds it, by a run with these arguments.
-build_ours() { # WORD..
-  need rt
-  (cd "$top/crates/grib_bench" && rt run -- "$@") >"$work/build.log" 2>&1 || {
-    cat "$work/build.log" >&2
-    fail "the measuring program was not built"
-  }
-}
-
-# Builds it, and the same work in plain Rust.
-build() { # PLAIN WORD..
-  need rustc
-  build_ours "${@:2}"
-  rustc -O --edition 2024 "$top/bench/$1" -o "$work/plain" || fail "$1 was not built"
-}
-
-# Stops unless the two print the same, and something.
-agree() { # WHAT
-  local our_sum their_sum
-  our_sum=$(ours) && their_sum=$(theirs) || fail "$1: a program failed"
-  [[ -n $our_sum && $our_sum == "$their_sum" ]] || fail "$1: the two programs differ"
-}
-
 # The processor time of a run, in seconds: the user's and the system's. Where the line between the two is
 # drawn is by chance when a run takes much memory, so that the user's alone would vary.
 seconds() { # COMMAND

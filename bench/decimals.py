@@ -6,30 +6,18 @@ each point is computed as a fraction from the scaled integer, the reference valu
 `dump` prints, and rounded half to even; the text has to be that one. Where fewer than 18 decimals hold, one more
 has to be refused at the first point whose numerator or denominator is 2^126 or more. Prints what was compared."""
 import collections
-import subprocess
 import sys
 from fractions import Fraction
 
-from messages import messages, reference_of
+from eccodes import fields_of, run
+from messages import messages
 
 BOUND = 2**126
 
 
-def run(program, words, message):
-    done = subprocess.run([program, *words], input=message, capture_output=True)
+def dumped(program, words, message):
+    done = run([program, "dump", *words], message)
     return done.returncode, done.stdout.decode().splitlines(), done.stderr.decode().strip()
-
-
-def fields_of(lines):
-    """For each field its reference value as mantissa and exponent, its scale factors, and the texts of its points."""
-    fields = []
-    for line in lines:
-        words = line.split()
-        if words[0] == "reference":
-            fields.append((*reference_of(words), []))
-        elif "." not in words[0]:
-            fields[-1][4].append(words[1])
-    return fields
 
 
 def expected(mantissa, exponent, binary, decimal, text, places):
@@ -61,14 +49,14 @@ def wanted(fields, places):
 
 def compared(program, message, counts):
     counts["messages"] += 1
-    status, lines, _ = run(program, ["dump"], message)
+    status, lines, _ = dumped(program, [], message)
     if status != 0:
         counts["not dumped"] += 1
         return
     fields = fields_of(lines)
     for places in range(18, -1, -1):
         texts, out = wanted(fields, places)
-        status, lines, note = run(program, ["dump", f"decimals={places}"], message)
+        status, lines, note = dumped(program, [f"decimals={places}"], message)
         if out is None:
             given = [field[4] for field in fields_of(lines)]
             agrees = status == 0 and given == texts

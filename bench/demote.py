@@ -17,10 +17,10 @@ differs."""
 import collections
 import os
 import re
-import subprocess
 import sys
 import tempfile
 
+from eccodes import run, values
 from messages import cause, messages, sections, told
 
 top = os.path.dirname(os.path.dirname(os.path.abspath(__file__)))
@@ -64,16 +64,6 @@ def table(paths):
     return text
 
 
-def eccodes_values(message):
-    """What ecCodes reads at each point, in the order of the message; None where it reads nothing."""
-    run = subprocess.run(["grib_get_data", "-m", "missing", "-F", "%.17g", "-L", "%.2f %.2f", "-"],
-                         input=message, capture_output=True)
-    if run.returncode != 0:
-        return None
-    lines = run.stdout.decode().splitlines()
-    return [line.split()[-1] for line in lines if not line.startswith("Lat")]
-
-
 class Program:
     """The program, run where the table is."""
 
@@ -82,8 +72,8 @@ class Program:
 
     def run(self, words, message):
         """The output of a run, and its note where it did not end well."""
-        run = subprocess.run([self.path, *words.split()], input=message, capture_output=True, cwd=self.work)
-        return run.stdout, run.stderr.decode() if run.returncode != 0 else None
+        done = run([self.path, *words.split()], message, cwd=self.work)
+        return done.stdout, done.stderr.decode() if done.returncode != 0 else None
 
     def demote_by_shipped(self, message):
         return self.run(f"demote params={top}/params/standard.csv tables=any local=keep earth=any", message)
@@ -132,7 +122,7 @@ def goes_back(program, message, counts):
 
 def same_again(program, message, old, migrate, counts):
     """Counts what differs in a message of edition 2 that became these octets of edition 1, here and migrated again."""
-    before, after = eccodes_values(message), eccodes_values(old)
+    before, after = values(message), values(old)
     if before is None:
         counts["not read by ecCodes"] += 1
     else:

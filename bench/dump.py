@@ -6,26 +6,16 @@ itself. Of each value that ecCodes gives, the scaled integer is computed back by
 scale factors that PROGRAM prints, and has to be the one that PROGRAM prints for that point. Prints a line
 for each file and edition: messages, fields and points that agree, refusals by their reason, and what differs."""
 import collections
-import subprocess
 import sys
 
+from eccodes import run, values_of_fields
 from messages import messages, our_fields
 
 
 def their_fields(message):
     """For each field its values, None where missing."""
-    run = subprocess.run(["grib_get_data", "-m", "missing", "-F", "%.17g", "-L", "%.0f %.0f", "-"],
-                         input=message, capture_output=True)
-    if run.returncode != 0:
-        return None
-    fields = []
-    for line in run.stdout.decode().splitlines():
-        words = line.replace(",", " ").split()
-        if words and words[0].startswith("Lat"):
-            fields.append([])
-        elif words:
-            fields[-1].append(None if words[-1] == "missing" else float(words[-1]))
-    return fields
+    fields = values_of_fields(message)
+    return fields and [[None if text == "missing" else float(text) for text in field] for field in fields]
 
 
 def agrees(ours, theirs):
@@ -38,11 +28,11 @@ def agrees(ours, theirs):
 def compared(program, message, counts):
     """Counts what comes of a message."""
     counts["messages"] += 1
-    run = subprocess.run([program, "dump"], input=message, capture_output=True)
-    if run.returncode != 0:
-        counts["refused " + " ".join(run.stderr.decode().split()[5:])] += 1
+    done = run([program, "dump"], message)
+    if done.returncode != 0:
+        counts["refused " + " ".join(done.stderr.decode().split()[5:])] += 1
         return
-    ours, theirs = our_fields(run.stdout.decode()), their_fields(message)
+    ours, theirs = our_fields(done.stdout.decode()), their_fields(message)
     if theirs is None:
         counts["accepted, and ecCodes fails"] += 1
         return

@@ -34,7 +34,7 @@ import tempfile
 import time
 
 import bombs
-from decimals import fields_of
+from eccodes import fields_of
 from grids import ROUND, arrays, cause, degrees, grids, has_steps, in_box, nearest, texts
 from messages import reference_of, sections
 from values import words_of

@@ -9,10 +9,10 @@ and of the keys for which ecCodes has a name what ecCodes reads. Prints for each
 import collections
 import hashlib
 import os
-import subprocess
 import sys
 import tempfile
 
+from eccodes import filtered, run
 from messages import messages, sections
 
 # The section of each key with its first and its last octet, 's' for a number with sign and 'm' for one that may be
@@ -36,10 +36,6 @@ END = {"endYear": (0, 1), "endMonth": (2, 2), "endDay": (3, 3), "endHour": (4, 4
 RANGES, RANGE = 7, {"rangeProcess": (12, 12), "rangeIncrementType": (13, 13), "rangeUnit": (14, 14), "rangeLength": (15, 18)}
 INTERVAL = {8: 35, 11: 38}
 SCANNING = {0: 72, 1: 72, 40: 72, 10: 60, 20: 65, 30: 65}
-
-
-def run(words, octets):
-    return subprocess.run(words, input=octets, capture_output=True)
 
 
 def fields(message):
@@ -82,10 +78,7 @@ def eccodes(octets, known):
     for message in messages(octets):
         digest = hashlib.sha256(message).digest()
         if digest not in known:
-            with tempfile.NamedTemporaryFile("w") as rules:
-                rules.write('print "field";\nprint "[values%.17g!1]";')
-                rules.flush()
-                text = run(["grib_filter", rules.name, "-"], message).stdout
+            text = filtered(message, 'print "field";\nprint "[values%.17g!1]";')
             known[digest] = [hashlib.sha256(values).digest() for values in text.split(b"field\n")[1:]]
         read += known[digest]
     return read
@@ -116,10 +109,8 @@ NAMES = {
 
 def eccodes_keys(message):
     """The keys of each field for which ecCodes has a name, by ecCodes."""
-    with tempfile.NamedTemporaryFile("w") as rules:
-        rules.write("".join(f'print "{key}=[{name}:i!1]";\n' for key, name in NAMES.items()) + 'print "field";\n')
-        rules.flush()
-        text = run(["grib_filter", rules.name, "-"], message).stdout.decode()
+    rules = "".join(f'print "{key}=[{name}:i!1]";\n' for key, name in NAMES.items()) + 'print "field";\n'
+    text = filtered(message, rules).decode()
     return [dict(line.split("=") for line in field.split() if "=" in line) for field in text.split("field\n")[:-1]]
 
 

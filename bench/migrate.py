@@ -11,14 +11,14 @@ point, and the same date, time, level and step. PROGRAM has to check it as one m
 a line for each file: what was migrated, which losses were named, what was refused, and what differs."""
 import collections
 import os
-import subprocess
 import sys
 import tempfile
 
+from eccodes import keys, run, values
 from messages import cause, messages, told
 
 top = os.path.dirname(os.path.dirname(os.path.abspath(__file__)))
-KEYS = "dataDate,dataTime,typeOfLevel,level,stepRange,numberOfPoints,Ni,Nj,centre"
+KEYS = ["dataDate", "dataTime", "typeOfLevel", "level", "stepRange", "numberOfPoints", "Ni", "Nj", "centre"]
 
 
 def table(paths):
@@ -36,48 +36,33 @@ def table(paths):
     return text
 
 
-def eccodes_values(message):
-    """What ecCodes reads at each point, in the order of the message; None where it reads nothing."""
-    run = subprocess.run(["grib_get_data", "-m", "missing", "-F", "%.17g", "-L", "%.2f %.2f", "-"],
-                         input=message, capture_output=True)
-    if run.returncode != 0:
-        return None
-    return [line.split()[-1] for line in run.stdout.decode().splitlines()[1:]]
-
-
-def eccodes_keys(message):
-    """Date, time, level and step as ecCodes names them."""
-    run = subprocess.run(["grib_get", "-f", "-p", KEYS, "-"], input=message, capture_output=True)
-    return dict(zip(KEYS.split(","), run.stdout.decode().split()))
-
-
 def by_shipped(program, message):
     """What is lost of a message by the shipped tables alone, or None."""
     words = [f"params={top}/params/standard.csv", f"surfaces={top}/params/surfaces.csv", "local=keep"]
-    run = subprocess.run([program, "migrate"] + words, input=message, capture_output=True)
-    return cause(run.stderr.decode()) if run.returncode else None
+    done = run([program, "migrate"] + words, message)
+    return cause(done.stderr.decode()) if done.returncode else None
 
 
 def compared(program, work, message, counts):
     """Counts what comes of a message."""
-    run = subprocess.run([program, "migrate", "params=table", "local=keep"], input=message, capture_output=True, cwd=work)
-    if run.returncode != 0:
-        counts[cause(run.stderr.decode())] += 1
+    done = run([program, "migrate", "params=table", "local=keep"], message, cwd=work)
+    if done.returncode != 0:
+        counts[cause(done.stderr.decode())] += 1
         return
     counts["migrated"] += 1
-    checked = subprocess.run([program, "check"], input=run.stdout, capture_output=True)
+    checked = run([program, "check"], done.stdout)
     lines = checked.stdout.decode().splitlines()
     counts["NOT ACCEPTED"] += checked.returncode != 0 or len(lines) != 2 or lines[0].split()[5] != "2"
-    before, after = eccodes_values(message), eccodes_values(run.stdout)
+    before, after = values(message), values(done.stdout)
     if before is None:
         counts["not read by ecCodes"] += 1
         return
     counts["points"] += len(before)
     counts["messages whose values DIFFER"] += before != after
-    keys, new = eccodes_keys(message), eccodes_keys(run.stdout)
-    for key in KEYS.split(","):
-        if keys.get(key) != new.get(key):
-            counts[f"{key} DIFFERS ({keys.get(key)}, {new.get(key)})"] += 1
+    old, new = keys(message, KEYS), keys(done.stdout, KEYS)
+    for key in KEYS:
+        if old.get(key) != new.get(key):
+            counts[f"{key} DIFFERS ({old.get(key)}, {new.get(key)})"] += 1
 
 
 def main():

@@ -21,6 +21,7 @@ from fractions import Fraction
 import gribapi
 import numpy
 
+from eccodes import exact
 from messages import reference_of
 
 top = os.path.dirname(os.path.dirname(os.path.abspath(__file__)))
@@ -81,13 +82,12 @@ def values_of(handle):
 
 
 def scales(path):
-    """R, E and D of each field whose values are read, exactly, by message and field."""
+    """R, E and D of each field whose values are read, by message and field."""
     place, found = "", {}
     for line in lines(path, "stats", "kept=pass") or lines(path, "stats"):
         words = line.split()
         if words[0] == "reference":
-            mantissa, exponent, binary, decimal = reference_of(words)
-            found[place] = mantissa * Fraction(2) ** exponent, Fraction(2) ** binary, Fraction(10) ** decimal
+            found[place] = reference_of(words)
         else:
             place = words[0]
     return found
@@ -95,9 +95,8 @@ def scales(path):
 
 def nearest(value, scale):
     """The number that is nearest to the exact value that a number stands for."""
-    reference, binary, decimal = scale
-    number = round((Fraction(value) * decimal - reference) / binary)
-    return float((reference + number * binary) / decimal)
+    number = round((Fraction(value) - exact(*scale, 0)) / (exact(*scale, 1) - exact(*scale, 0)))
+    return float(exact(*scale, number))
 
 
 def words_of(values):

@@ -7,20 +7,13 @@ and the words of the points those of the fractions of Python, from the scaled nu
 factors that `dump` prints, rounded once, half to even; missing points are the quiet NaN. Prints what was compared."""
 import collections
 import struct
-import subprocess
 import sys
-from fractions import Fraction
 
-from decimals import fields_of
+from eccodes import exact, fields_of, run
 from messages import messages
 
 # How many digits a significand has, the greatest exponent, the form of a word, and the word of a quiet NaN.
 FORMATS = {"f8": (53, 1023, "<Q", 0x7FF8000000000000), "f4": (24, 127, "<I", 0x7FC00000)}
-
-
-def run(program, words, message):
-    done = subprocess.run([program, *words], input=message, capture_output=True)
-    return done.returncode, done.stdout
 
 
 def word_of(value, digits, most):
@@ -32,24 +25,20 @@ def word_of(value, digits, most):
     return word + (2 * most + 2) * 2 ** (digits - 1) if value < 0 else word
 
 
-def value_of(mantissa, exponent, binary, decimal, number):
-    return (mantissa * Fraction(2) ** exponent + number * Fraction(2) ** binary) / Fraction(10) ** decimal
-
-
 def words_of(field, name):
     """The octets of all points of a field; a value that several points have is found once."""
     *scale, points = field
     digits, most, form, nan = FORMATS[name]
     found = {}
     for text in set(points):
-        word = nan if text.startswith("missing") else word_of(value_of(*scale, int(text)), digits, most)
+        word = nan if text.startswith("missing") else word_of(exact(*scale, int(text)), digits, most)
         found[text] = struct.pack(form, word)
     return b"".join(found[text] for text in points)
 
 
 def shapes_2(program, message):
     """The shape of each field of a message of edition 2; None for a grid with a list of rows."""
-    lines = run(program, ["keys"], message)[1].decode().splitlines()
+    lines = run([program, "keys"], message).stdout.decode().splitlines()
     for line in lines:
         keys = dict(word.split("=") for word in line.split()[1:])
         if "missing" in (keys["ni"], keys["nj"]) or int(keys["ni"]) * int(keys["nj"]) != int(keys["points"]):
@@ -76,11 +65,11 @@ def header_of(name, shape):
 
 def compared(program, edition, message, counts):
     counts["messages"] += 1
-    status, dumped = run(program, ["dump"], message)
-    if status != 0:
+    dumped = run([program, "dump"], message)
+    if dumped.returncode != 0:
         counts["not dumped"] += 1
         return
-    fields = fields_of(dumped.decode().splitlines())
+    fields = fields_of(dumped.stdout.decode().splitlines())
     shapes = list(shapes_2(program, message) if edition == 2 else shapes_1(message))
     for name in FORMATS:
         expected = b""
@@ -89,7 +78,8 @@ def compared(program, edition, message, counts):
             counts["arrays of points alone" if shape is None else "arrays of rows or columns"] += 1
             expected += header_of(name, shape or (points,)) + words_of(field, name)
             counts[f"points as {name}"] += points
-        if run(program, ["values", f"as={name}"], message) != (0, expected):
+        given = run([program, "values", f"as={name}"], message)
+        if (given.returncode, given.stdout) != (0, expected):
             counts["messages that differ"] += 1
 
 

@@ -3,7 +3,7 @@
 
 use crate::given::section;
 use grib_base::{ReadFault, Reason};
-use grib_bitmap::{Mask, Run, ones, read_mask, write_mask};
+use grib_bitmap::{Mask, ones, read_mask, write_mask};
 use grib_bits::BitWriter;
 use std::alloc::Global;
 use std::process::Abort;
@@ -60,66 +60,11 @@ fn masks_of_a_message(rt: HostRuntime) {
     assert_eq!(rt; ones(&all), 4);
 }
 
-#[test]
-fn refusals_come_in_their_order(rt: HostRuntime) -> Result<(), Fail> {
-    let three = Mask::all(rt.alloc(), 3)?;
-    let own = [0, 0, 0, 7, 6, 0, 0xb0];
-    let same = [0, 0, 0, 6, 6, 254];
-    let read_with = |octets: &[u8], values: u32, earlier: Option<&Mask>| {
-        refused(&rt, read(&rt, rt.alloc(), octets, 4, values, earlier))
-    };
-    assert_eq!(rt;
-        read_with(&[0, 0, 0, 5, 6], 4, None),
-        (165, Reason::SectionLength, 5)
-    );
-    assert_eq!(rt;
-        read_with(&[0, 0, 0, 6, 6, 7], 4, None),
-        (170, Reason::BitmapIndicator, 7)
-    );
-    assert_eq!(rt;
-        read_with(&same, 3, None),
-        (170, Reason::NoEarlierBitmap, 254)
-    );
-    assert_eq!(rt;
-        read_with(&[0, 0, 0, 6, 6, 0], 4, None),
-        (165, Reason::BitmapSize, 6)
-    );
-    assert_eq!(rt;
-        read_with(&same, 3, Some(&three)),
-        (170, Reason::BitmapSize, 3)
-    );
-    assert_eq!(rt; read_with(&own, 4, None), (170, Reason::ValueCount, 3));
-    Ok(())
-}
-
 /// Runs of 5, 70, 1, 64, 3, 1, 2 and 47 points, left out and present in turn. Ones follow the last.
 const RUNS: [u8; 31] = [
     0, 0, 0, 31, 6, 0, 0x07, 0xff, 0xff, 0xff, 0xff, 0xff, 0xff, 0xff, 0xff, 0xef, 0xff, 0xff,
     0xff, 0xff, 0xff, 0xff, 0xff, 0xf1, 0x3f, 0xff, 0xff, 0xff, 0xff, 0xff, 0xff,
 ];
-
-#[test]
-fn runs_end_where_another_begins(rt: HostRuntime) -> Result<(), Fail> {
-    let mask = accepted(&rt, read(&rt, rt.alloc(), &RUNS, 193, 182, None)).copy(rt.alloc())?;
-    let mut place = 0;
-    let mut present = false;
-    for length in [5, 70, 1, 64, 3, 1, 2, 47] {
-        assert!(rt; place < mask.len());
-        assert_eq!(rt; mask.run(place), Run { present, length });
-        place += length;
-        present = !present;
-    }
-    assert_eq!(rt; place, mask.len());
-    Ok(())
-}
-
-#[test]
-fn full_masks_of_each_length(rt: HostRuntime) -> Result<(), Fail> {
-    for points in 0..131 {
-        assert_eq!(rt; ones(&Mask::all(rt.alloc(), points)?), points);
-    }
-    Ok(())
-}
 
 /// The octets that a mask gives.
 fn written(rt: &impl Abort, alloc: Global, mask: &Mask) -> Result<Vec<u8>, Fail> {

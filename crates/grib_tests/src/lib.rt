@@ -8,24 +8,16 @@ mod base;
 #[cfg(test)]
 mod bitmap;
 #[cfg(test)]
-mod bits;
-#[cfg(test)]
 mod decimal;
-#[cfg(test)]
-mod dyadic;
 #[cfg(test)]
 mod given;
 #[cfg(test)]
 mod grids;
-#[cfg(test)]
-mod keys;
 #[cfg(test)]
 mod outside;
 #[cfg(test)]
 mod params;
 #[cfg(test)]
 mod products;
-#[cfg(test)]
-mod sections;
 #[cfg(test)]
 mod writers;

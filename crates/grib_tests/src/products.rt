@@ -1,16 +1,8 @@
-//! Sections in which the octets of a template are numbered, so that a number says where it stands,
-//! and worked messages.
-
-ghost use Rattle.std.specs.Prelude.{◌+◌, ◌*◌, ◌≤◌, IfOk};
-ghost use Rattle.grib2_sections.specs.Template.{least_length};
-ghost use Rattle.grib2_products.specs.Product.{product_templates};
-ghost use Rattle.grib2_products.specs.Spelled.{template_of, range_count};
-ghost use Rattle.grib2_products.specs.Writable.{IsWritable};
+//! A Section 4 in which the octets of a template are numbered, so that a number says where it stands.
 
 use crate::given::{put, put_length, section};
-use grib_base::{Fault, ReadFault, Reason};
-use grib_bits::BitWriter;
-use grib2_products::{Instant, Product, ProductSection, Spec, read_product, write_product};
+use grib_base::ReadFault;
+use grib2_products::{Instant, Product, ProductSection, Spec, read_product};
 use std::alloc::{AllocError, Global};
 use std::process::Abort;
 use std::test::Fail;
@@ -44,52 +36,11 @@ fn numbered(alloc: Global, template: u8, length: u8) -> Result<Vec<u8>, AllocErr
     Ok(octets)
 }
 
-/// Reads a section that begins at octet 110 of its message, and sees first that it is one. What is read
-/// may be written.
-fn read(rt: &impl Abort, alloc: Global, octets: &[u8]) -> Result<ProductSection, ReadFault>
-    ensures { IfOk result (λ value. IsWritable value) }
-{
+/// Reads a section that begins at octet 110 of its message, and sees first that it is one.
+fn read(rt: &impl Abort, alloc: Global, octets: &[u8]) -> Result<ProductSection, ReadFault> {
     let section = section(rt, 4, 110, octets);
     read_product(alloc, &section)
 }
-
-/// The octets that are written for the value of a section, read with three octets of surplus.
-fn rewritten(rt: &impl Abort, alloc: Global, octets: &[u8]) -> Result<Vec<u8>, Fail> {
-    let mut longer = octets.to_vec(alloc)?;
-    longer.extend_from_slice(&[0xee; 3])?;
-    put_length(rt, &mut longer);
-    let value = read(rt, alloc, longer.as_slice())?;
-    written(alloc, &value)
-}
-
-/// The octets that are written for this value.
-fn written(alloc: Global, value: &ProductSection) -> Result<Vec<u8>, Fail>
-    requires { IsWritable value.now }
-{
-    let coordinates = value.coordinates.as_slice();
-    let room = longest(&value.product) + 4 * coordinates.len() as u64;
-    let mut out = BitWriter::new(alloc);
-    out.reserve(8 * room)?;
-    write_product(value, &mut out);
-    Ok(out.into_octets())
-}
-
-/// Octets that are enough for a section with this product and no coordinate values.
-fn longest(product: &Product) -> u64
-    ensures enough { least_length product_templates (template_of product.now)
-        + 12 * range_count product.now ≤ result }
-    ensures few { result ≤ 3109 }
-{
-    match product {
-        Product::Interval(_, interval) | Product::EnsembleInterval(_, _, interval) => {
-            49 + 12 * u64::from(interval.n)
-        }
-        _ => 37,
-    }
-}
-
-/// The templates, each with its least length in octets and the octet that numbers its time ranges.
-const PRODUCTS: [(u8, u8, u8); 4] = [(0, 34, 0), (1, 37, 0), (8, 46, 42), (11, 49, 45)];
 
 /// Two time ranges: the mean over 24 hours of hourly fields, and the greatest over 6 days.
 const RANGES: [u8; 24] = [
@@ -98,46 +49,6 @@ const RANGES: [u8; 24] = [
 
 /// Two coordinate values, 100 and 0.5 in binary32.
 const COORDINATES: [u8; 8] = [0x42, 0xc8, 0, 0, 0x3f, 0, 0, 0];
-
-#[test]
-fn templates_are_written_back(rt: HostRuntime) -> Result<(), Fail> {
-    for (template, length, numbers_ranges) in PRODUCTS {
-        for ranges in [0u8, 2] {
-            for coordinates in [0u8, 2] {
-                let mut octets = numbered(rt.alloc(), template, length)?;
-                if numbers_ranges != 0 {
-                    put(&mut octets, numbers_ranges.wrapping_sub(1), &[ranges]);
-                    if ranges == 2 {
-                        octets.extend_from_slice(&RANGES)?;
-                    }
-                }
-                put(&mut octets, 6, &[coordinates]);
-                if coordinates == 2 {
-                    octets.extend_from_slice(&COORDINATES)?;
-                }
-                put_length(&rt, &mut octets);
-                let again = rewritten(&rt, rt.alloc(), octets.as_slice())?;
-                assert_eq!(rt; again.as_slice(), octets.as_slice(), "template {template}");
-            }
-        }
-    }
-    Ok(())
-}
-
-#[test]
-fn an_ensemble_is_read(rt: HostRuntime) -> Result<(), Fail> {
-    let octets = numbered(rt.alloc(), 1, 37)?;
-    let value = read(&rt, rt.alloc(), octets.as_slice())?;
-    let Product::Ensemble(instant, ensemble) = value.product else {
-        return Err(Fail::from("no template 4.1"));
-    };
-    assert_eq!(rt; instant, INSTANT);
-    assert_eq!(rt;
-        (ensemble.kind, ensemble.perturbation, ensemble.size),
-        (35, 36, 37)
-    );
-    Ok(())
-}
 
 #[test]
 fn an_interval_is_read(rt: HostRuntime) -> Result<(), Fail> {
@@ -186,56 +97,5 @@ fn an_interval_is_read(rt: HostRuntime) -> Result<(), Fail> {
         increment: 0,
     };
     assert_eq!(rt; interval.specs.as_slice(), [mean, greatest].as_slice());
-    Ok(())
-}
-
-/// Section 4 of a worked message: a forecast of temperature for 6 hours ahead, 2 m above ground.
-const WORKED: [u8; 34] = [
-    0x00, 0x00, 0x00, 0x22, 0x04, 0x00, 0x00, 0x00, 0x00, 0x00, 0x00, 0x02, 0xff, 0x01, 0x00, 0x00,
-    0x00, 0x01, 0x00, 0x00, 0x00, 0x06, 0x67, 0x00, 0x00, 0x00, 0x00, 0x02, 0xff, 0xff, 0xff, 0xff,
-    0xff, 0xff,
-];
-
-#[test]
-fn a_worked_section_is_read(rt: HostRuntime) -> Result<(), Fail> {
-    let value = read(&rt, rt.alloc(), &WORKED)?;
-    let Product::Instant(instant) = value.product else {
-        return Err(Fail::from("no template 4.0"));
-    };
-    assert_eq!(rt;
-        (instant.category, instant.number, instant.process),
-        (0, 0, 2)
-    );
-    assert_eq!(rt; (instant.unit, instant.time), (1, 6));
-    assert_eq!(rt;
-        (instant.surface1, instant.scale1, instant.value1),
-        (103, 0, 2)
-    );
-    assert_eq!(rt; instant.surface2, 255);
-    assert_eq!(rt; value.coordinates.as_slice().len(), 0);
-    Ok(())
-}
-
-/// What the octets of the worked section from `at` on, counted from 0, become; and the refusal.
-const REFUSED: [(u8, &[u8], u64, Reason, u64); 4] = [
-    (7, &[0, 5], 117, Reason::ProductTemplate, 5),
-    (7, &[0, 8], 110, Reason::SectionLength, 34),
-    (5, &[0, 1], 110, Reason::SectionLength, 34),
-    (5, &[0xff, 0xff], 110, Reason::SectionLength, 34),
-];
-
-#[test]
-fn sections_are_refused(rt: HostRuntime) -> Result<(), Fail> {
-    for (at, new, octet, reason, detail) in REFUSED {
-        let fault = Fault {
-            octet,
-            reason,
-            detail,
-        };
-        let mut octets = WORKED.to_vec(rt.alloc())?;
-        put(&mut octets, at, new);
-        let refused = read(&rt, rt.alloc(), octets.as_slice()).err();
-        assert_eq!(rt; refused, Some(ReadFault::Refused(fault)));
-    }
     Ok(())
 }

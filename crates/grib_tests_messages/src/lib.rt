@@ -9,8 +9,6 @@ mod made;
 #[cfg(test)]
 mod message;
 #[cfg(test)]
-mod repack;
-#[cfg(test)]
 mod select;
 #[cfg(test)]
 mod text;

@@ -1,7 +1,5 @@
 //! What is made, against octets and sums that another program made by the same rules.
 
-use crate::worked::{read, readable};
-use grib_packing::Point;
 use grib_synthetic::{Summary, made_message, made_summary};
 use std::test::Fail;
 
@@ -30,25 +28,5 @@ fn four_points_are_made(rt: HostRuntime) -> Result<(), Fail> {
         sum: 368,
     };
     assert_eq!(rt; made_summary(1, 2, 2), summary);
-    Ok(())
-}
-
-#[test]
-fn field_of_a_degree_is_made(rt: HostRuntime) -> Result<(), Fail> {
-    let octets = made_message(rt.alloc(), 7, 360, 181)?;
-    assert_eq!(rt; octets.len(), 121_206);
-    let message = read(rt.alloc(), &octets)?;
-    assert_eq!(rt; message.fields(), 1);
-    let column = readable(&message)?.column(rt.alloc(), 1)?;
-    let points = column.points.as_slice();
-    assert_eq!(rt; points.len(), 65_160);
-    assert_eq!(rt; points[0], Point::Scaled(44));
-    assert_eq!(rt; points[95], Point::Missing);
-    assert_eq!(rt; points[65_159], Point::Scaled(1765));
-    let summary = Summary {
-        present: 64_504,
-        sum: 652_289_733,
-    };
-    assert_eq!(rt; made_summary(7, 360, 181), summary);
     Ok(())
 }

@@ -1,13 +1,12 @@
 //! The expected lines are written by hand.
 
 use crate::edition1;
-use crate::worked::{GRID, NO_BITMAP, PLAIN, edited, message_of, read};
+use crate::worked::{PLAIN, read};
 use grib_base::{Fault, Reason, Refusal};
 use grib_dyadic::Dyadic;
 use grib_packing::Point;
 use grib_text::{
-    append_point_line, check_line, list_line, list_line1, point_line, reference_line, refusal_note,
-    total_line,
+    append_point_line, check_line, list_line1, point_line, reference_line, refusal_note, total_line,
 };
 use std::alloc::Global;
 use std::test::Fail;
@@ -23,65 +22,6 @@ fn counts_have_lines(rt: HostRuntime) -> Result<(), Fail> {
     assert_eq!(rt;
         line.as_slice(),
         b"messages 1 fields 1 skipped 0\n".as_slice()
-    );
-    Ok(())
-}
-
-/// The line of a field of the message of edition 2 that these octets are.
-fn line_of_field(alloc: Global, octets: &[u8], number: u64, field: u32) -> Result<Vec<u8>, Fail> {
-    let Ok(message) = read(alloc, octets) else {
-        return Err(Fail::from("refused"));
-    };
-    if field < 1 || field > message.fields() {
-        return Err(Fail::from("no field"));
-    }
-    Ok(list_line(alloc, &message, number, field)?)
-}
-
-#[test]
-fn field_has_its_line(rt: HostRuntime) -> Result<(), Fail> {
-    let line = line_of_field(rt.alloc(), &PLAIN, 1, 1)?;
-    assert_eq!(rt;
-        line.as_slice(),
-        b"1.1 ed=2 centre=98 time=2024-01-15T12:00:00 grid=3.0 points=4 product=4.0 param=0.0.0 unit=1 ahead=6 surface=103:0:2 packing=5.0 bits=8 values=4\n".as_slice()
-    );
-    let line = line_of_field(rt.alloc(), &PLAIN, 12, 1)?;
-    assert_eq!(rt;
-        line.as_slice(),
-        b"12.1 ed=2 centre=98 time=2024-01-15T12:00:00 grid=3.0 points=4 product=4.0 param=0.0.0 unit=1 ahead=6 surface=103:0:2 packing=5.0 bits=8 values=4\n".as_slice()
-    );
-    Ok(())
-}
-
-/// A leap second of an unknown centre.
-const LEAP_SECOND: &[u8] =
-    b"\0\0\0\x15\x01\xff\xff\0\0\x02\0\x01\x07\xe8\x0c\x1f\x17\x3b\x3c\0\x01";
-
-/// An interval that begins six seconds before the time of reference, at no surface, with a scale of -2.
-const EARLIER: &[u8] = b"\0\0\0\x3a\x04\0\0\0\x08\x02\x03\x02\xff\x01\0\0\0\x0d\x80\0\0\x06\
-\xff\x82\xff\xff\xff\xff\xff\xff\xff\xff\xff\xff\x07\xe8\x0c\x1f\x17\x3b\x3c\x01\0\0\0\0\
-\x01\x02\x0d\0\0\0\x06\x0d\0\0\0\0";
-
-/// Four numbers whose second differences are all 1.
-const DIFFERENCES: &[u8] = b"\0\0\0\x31\x05\0\0\0\x04\0\x03\xc2\xed\x40\0\x80\x03\0\x01\0\0\
-\x01\0\xff\xff\xff\xff\xff\xff\xff\xff\0\0\0\x01\0\0\0\0\0\x01\x01\0\0\0\x04\x06\x02\x01";
-
-const DIFFERENCES_DATA: &[u8] = b"\0\0\0\x09\x07\x0a\x0c\x01\x0c";
-
-#[test]
-fn missing_surface_and_earlier_time_are_printed(rt: HostRuntime) -> Result<(), Fail> {
-    let gaussian = edited(rt.alloc(), GRID, &[(14, 40)])?;
-    let field = [EARLIER, DIFFERENCES, NO_BITMAP, DIFFERENCES_DATA];
-    let mut sections = [LEAP_SECOND, gaussian.as_slice()].to_vec(rt.alloc())?;
-    for _field in 0..3 {
-        sections.extend_from_slice(&field)?;
-    }
-    let octets = message_of(rt.alloc(), 479, sections.as_slice())?;
-    let octets = edited(rt.alloc(), octets.as_slice(), &[(7, 10)])?;
-    let line = line_of_field(rt.alloc(), octets.as_slice(), 12, 3)?;
-    assert_eq!(rt;
-        line.as_slice(),
-        b"12.3 ed=2 centre=65535 time=2024-12-31T23:59:60 grid=3.40 points=4 product=4.8 param=10.2.3 unit=13 ahead=-6 surface=missing:-2:missing packing=5.3 bits=0 values=4\n".as_slice()
     );
     Ok(())
 }

@@ -10,7 +10,6 @@ pub(crate) use grib_samples::{
 };
 use grib2_message::{Message, ReadableMessage, read_message};
 use std::alloc::{AllocError, Global};
-use std::test::Fail;
 
 /// Reads a message; no memory stands for octets that do not begin one of edition 2.
 pub(crate) fn read(alloc: Global, octets: &[u8]) -> Result<Message<'_>, ReadFault> {
@@ -28,33 +27,4 @@ pub(crate) fn readable<'a>(message: &'a Message<'a>) -> Result<ReadableMessage<'
         Ok(readable) => Ok(readable),
         Err(_) => Err(AllocError),
     }
-}
-
-#[test]
-fn messages_are_made_of_these_sections(rt: HostRuntime) -> Result<(), Fail> {
-    let one = [
-        IDENTIFICATION,
-        GRID,
-        PRODUCT,
-        FOUR_NUMBERS,
-        NO_BITMAP,
-        FOUR_VALUES,
-    ];
-    let octets = message_of(rt.alloc(), 183, &one)?;
-    assert_eq!(rt; octets.as_slice(), PLAIN.as_slice());
-    let two = [
-        IDENTIFICATION,
-        GRID,
-        PRODUCT,
-        THREE_NUMBERS,
-        OWN_BITMAP,
-        FIRST_VALUES,
-        PRODUCT,
-        THREE_NUMBERS,
-        SAME_BITMAP,
-        SECOND_VALUES,
-    ];
-    let octets = message_of(rt.alloc(), 252, &two)?;
-    assert_eq!(rt; octets.as_slice(), TWO_FIELDS.as_slice());
-    Ok(())
 }

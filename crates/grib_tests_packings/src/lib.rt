@@ -18,28 +18,10 @@ macro_rules! points {
     };
 }
 
-/// Codes: `_` is primary, `~` secondary missing.
-macro_rules! codes {
-    (@ _) => {
-        Code::Primary
-    };
-    (@ ~) => {
-        Code::Secondary
-    };
-    (@ $number:literal) => {
-        Code::Present($number)
-    };
-    ($($code:tt)*) => {
-        [$(codes!(@ $code)),*]
-    };
-}
-
 #[cfg(test)]
 mod complex;
 #[cfg(test)]
 mod given;
-#[cfg(test)]
-mod groups;
 #[cfg(test)]
 mod simple;
 #[cfg(test)]

@@ -2,10 +2,9 @@
 //! those of worked messages.
 
 use crate::given::section;
-use grib_base::{Fault, ReadFault, Reason};
+use grib_base::ReadFault;
 use grib_bitmap::{Mask, ones, read_mask};
-use grib_bits::get_bits;
-use grib_packing::{Column, Packing, Point, Simple, read_simple};
+use grib_packing::{Column, Packing, Point, read_simple};
 use grib_simple::{SimplePacking, unpack_numbers, unpack_points};
 use std::alloc::{AllocError, Global};
 use std::process::Abort;
@@ -32,86 +31,6 @@ fn unpacked(
     unpack_numbers(alloc, octets, bits, count)
 }
 
-#[test]
-fn numbers_stand_one_after_another(rt: HostRuntime) -> Result<(), Fail> {
-    let single = [1, 1, 0, 1, 1, 1, 0, 0, 0, 1, 1, 0, 0, 0, 0, 1, 1, 0, 0];
-    let seven = [
-        0x6e, 0x18, 0x31, 0x66, 0x56, 0x4b, 0x04, 0x12, 0x0e, 0x6d, 0x64, 0x58, 0x0c, 0x43, 0x28,
-        0x64, 0x6a,
-    ];
-    let twelve = [
-        0xdc6, 0x18e, 0x6ad, 0x2c2, 0x121, 0xdb7, 0x258, 0x190, 0xd46, 0x4d4, 0x1f8, 0x719, 0x90a,
-    ];
-    let widest = [
-        0xdc618e6ad2c2,
-        0x121db7258190,
-        0xd464d41f8719,
-        0x90a98ecc8e72,
-        0xe3a304fc8694,
-        0x641ecd631547,
-        0x8c88c853c59f,
-        0x5eb0b8381271,
-        0x744a77fe720a,
-        0x3e60731aa66c,
-    ];
-    // The octets, the bits of a number, and the numbers.
-    let cases: [(usize, u32, &[u64]); 8] = [
-        (10, 1, &single),
-        (15, 7, &seven),
-        (20, 12, &twelve),
-        (60, 48, &widest),
-        (0, 0, &[0, 0, 0]),
-        (60, 0, &[0, 0]),
-        (60, 48, &[]),
-        (6, 16, &[0xdc61, 0x8e6a, 0xd2c2]),
-    ];
-    for (length, bits, expected) in cases {
-        assert!(rt; expected.len() <= 19);
-        let numbers = unpacked(&rt, rt.alloc(), length, bits, expected.len() as u32)?;
-        assert!(rt;
-            numbers.as_slice() == expected,
-            "{length} octets, {bits} bits"
-        );
-    }
-    Ok(())
-}
-
-/// Looks at each number, and at each point, beside the number of its bits.
-fn each_is_cut(
-    rt: &impl Abort,
-    alloc: Global,
-    octets: &[u8],
-    bits: u32,
-    count: u32,
-) -> Result<(), AllocError> {
-    assert!(rt; bits <= 48 && octets.len() <= 120);
-    assert!(rt; u64::from(bits) * u64::from(count) <= 8 * octets.len() as u64);
-    let numbers = unpack_numbers(alloc, octets, bits, count)?;
-    let points = unpack_points(alloc, octets, bits, count)?;
-    assert!(rt; numbers.len() == count as usize && points.len() == count as usize);
-    for index in 0..count {
-        let at = u64::from(index) * u64::from(bits);
-        assert!(rt; at + u64::from(bits) <= 8 * octets.len() as u64);
-        let number = get_bits(octets, at, bits);
-        assert!(rt; number <= 65535);
-        assert_eq!(rt; numbers[index as usize], number);
-        assert_eq!(rt; points[index as usize], Point::Scaled(number as i64));
-    }
-    Ok(())
-}
-
-#[test]
-fn numbers_of_whole_octets(rt: HostRuntime) -> Result<(), Fail> {
-    let mut octets = OCTETS.to_vec(rt.alloc())?;
-    octets.extend_from_slice(OCTETS)?;
-    for bits in [8, 16] {
-        for count in 0..41 {
-            each_is_cut(&rt, rt.alloc(), &octets, bits, count)?;
-        }
-    }
-    Ok(())
-}
-
 /// A Section 7.
 const DATA: [u8; 11] = [0, 0, 0, 11, 7, 0x00, 0x1a, 0xbc, 0xff, 0xf0, 0x00];
 
@@ -120,41 +39,15 @@ fn points_of_half_octets(rt: HostRuntime) -> Result<(), Fail> {
     let points = unpack_points(rt.alloc(), &DATA[5..8], 4, 5)?;
     let expected = [0, 0, 1, 10, 11].map(Point::Scaled);
     assert_eq!(rt; points.as_slice(), expected.as_slice());
+    let numbers = unpack_numbers(rt.alloc(), &DATA[5..8], 4, 5)?;
+    assert_eq!(rt; numbers.as_slice(), [0, 0, 1, 10, 11].as_slice());
     Ok(())
 }
-
-/// What stands in a Section 5 that begins at octet 144.
-fn read(rt: &impl Abort, octets: &[u8], points: u32) -> Result<Simple, Fault> {
-    read_simple(&section(rt, 5, 144, octets), points)
-}
-
-/// A Section 5 of template 5.0: four values of 8 bits, with R = -118.625, E = -3 and D = 1.
-const FIELD: [u8; 21] = [
-    0, 0, 0, 21, 5, 0, 0, 0, 4, 0, 0, 0xc2, 0xed, 0x40, 0x00, 0x80, 0x03, 0x00, 0x01, 8, 0,
-];
 
 /// A field of three values.
 const THREE: [u8; 21] = [
     0, 0, 0, 21, 5, 0, 0, 0, 3, 0, 0, 0xc2, 0xed, 0x40, 0x00, 0x80, 0x03, 0x00, 0x01, 8, 0,
 ];
-
-#[test]
-fn section_5_has_its_numbers(rt: HostRuntime) {
-    let simple = Simple {
-        values: 4,
-        template: 0,
-        reference: 0xc2ed4000,
-        e: 0x8003,
-        d: 1,
-        bits: 8,
-        kind: 0,
-    };
-    assert_eq!(rt; read(&rt, &FIELD, 4), Ok(simple));
-    let mut changed = FIELD;
-    changed[10] = 41;
-    let fault = Fault::at(153, Reason::PngPacked, 41);
-    assert_eq!(rt; read(&rt, &changed, 4), Err(fault));
-}
 
 /// The column of a field in simple packing, for which it is seen first that Section 5 is accepted. Section
 /// 7 begins at octet 171.
@@ -211,57 +104,4 @@ fn fields_of_a_message_with_a_bitmap(rt: HostRuntime) {
     let second = unpacked_field(&rt, rt.alloc(), &THREE, &again, &[0, 0, 0, 8, 7, 3, 4, 5]);
     let second = column(&rt, second);
     assert_eq!(rt; second.points.as_slice(), points![3 _ 4 5].as_slice());
-}
-
-#[test]
-fn numbers_of_no_bits_are_not_read(rt: HostRuntime) -> Result<(), Fail> {
-    let mut constant = FIELD;
-    constant[19] = 0;
-    let all = Mask::all(rt.alloc(), 4)?;
-    let field = unpacked_field(&rt, rt.alloc(), &constant, &all, &[0, 0, 0, 5, 7]);
-    let field = column(&rt, field);
-    assert_eq!(rt; field.points.as_slice(), points![0 0 0 0].as_slice());
-
-    let short = unpacked_field(&rt, rt.alloc(), &FIELD, &all, &[0, 0, 0, 8, 7, 0, 1, 2]);
-    let fault = ReadFault::Refused(Fault::at(171, Reason::DataTooShort, 8));
-    assert!(rt; short.err() == Some(fault));
-    Ok(())
-}
-
-/// A Section 6 with runs of 5, 70, 1, 64, 3, 1, 2 and 47 points, left out and present in turn.
-const RUNS: [u8; 31] = [
-    0, 0, 0, 31, 6, 0, 0x07, 0xff, 0xff, 0xff, 0xff, 0xff, 0xff, 0xff, 0xff, 0xef, 0xff, 0xff,
-    0xff, 0xff, 0xff, 0xff, 0xff, 0xf1, 0x3f, 0xff, 0xff, 0xff, 0xff, 0xff, 0x80,
-];
-
-#[test]
-fn wide_numbers_of_a_long_mask(rt: HostRuntime) -> Result<(), Fail> {
-    let mask = mask_of(&rt, rt.alloc(), &RUNS, 193, 182, None);
-    // The k-th number, of 40 bits, is 2^39 + k.
-    let mut representation = THREE;
-    representation[8] = 182;
-    representation[19] = 40;
-    let mut data = [0, 0, 0x03, 0x93, 7].to_vec(rt.alloc())?;
-    for k in 0..182u8 {
-        data.extend_from_slice(&[0x80, 0, 0, 0, k])?;
-    }
-    let field = unpacked_field(&rt, rt.alloc(), &representation, &mask, &data);
-    let field = column(&rt, field);
-    let mut points = field.points.as_slice().iter().copied();
-    let mut number = 1i64 << 39;
-    let mut present = false;
-    for length in [5, 70, 1, 64, 3, 1, 2, 47] {
-        for _ in 0..length {
-            let expected = if present {
-                Point::Scaled(number)
-            } else {
-                Point::Missing
-            };
-            assert_eq!(rt; points.next(), Some(expected));
-            number = number.wrapping_add(i64::from(present));
-        }
-        present = !present;
-    }
-    assert_eq!(rt; points.next(), None);
-    Ok(())
 }

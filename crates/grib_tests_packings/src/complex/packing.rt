@@ -81,14 +81,6 @@ fn has_spatial(packed: &Packed, front: [u8; 21], layout: [u8; 26], ends: [u8; 2]
 }
 
 #[test]
-fn second_differences_that_are_all_the_same(rt: HostRuntime) -> Result<(), Fail> {
-    let made = spatial(rt.alloc(), &points![10 12 15 19], 2)?;
-    assert!(rt; has_spatial(&made, front(49, 4, 3, 0), layout(0, 1, 0, 4), [2, 1]));
-    assert!(rt; has(&made, &[0, 0, 0, 9, 7, 0x0a, 0x0c, 0x01, 0x0c]));
-    Ok(())
-}
-
-#[test]
 fn first_differences_in_two_groups(rt: HostRuntime) -> Result<(), Fail> {
     let points = [
         Point::Scaled(5),
@@ -108,72 +100,5 @@ fn a_missing_point_among_numbers(rt: HostRuntime) -> Result<(), Fail> {
     let made = complex(rt.alloc(), &points![5 _ 6])?;
     assert!(rt; has_complex(&made, front(47, 3, 2, 3), layout(1, 1, 2, 3)));
     assert!(rt; has(&made, &[0, 0, 0, 9, 7, 0xa0, 0x80, 0x08, 0x34]));
-    Ok(())
-}
-
-#[test]
-fn references_leave_room_for_marks(rt: HostRuntime) -> Result<(), Fail> {
-    let made = complex(rt.alloc(), &points![7 _ 7 7])?;
-    assert!(rt; has_complex(&made, front(47, 4, 2, 4), layout(1, 1, 1, 4)));
-    assert!(rt; has(&made, &[0, 0, 0, 9, 7, 0x70, 0x80, 0x0c, 0x40]));
-    Ok(())
-}
-
-#[test]
-fn marks_alone(rt: HostRuntime) -> Result<(), Fail> {
-    let made = complex(rt.alloc(), &points![_ ~ _ ~])?;
-    assert!(rt; has_complex(&made, front(47, 4, 2, 2), layout(2, 1, 1, 4)));
-    assert!(rt; has(&made, &[0, 0, 0, 9, 7, 0x00, 0x80, 0x0c, 0xa0]));
-    Ok(())
-}
-
-#[test]
-fn what_does_not_fit_is_named(rt: HostRuntime) {
-    let alloc = rt.alloc();
-    let wide = points![_ 0xffff_fffe 0xffff_ffff];
-    assert!(rt; complex(alloc, &wide).err() == Some(PackFault::OutOfRange(3)));
-    let powers = points![0 1 2 0x1_0000_0000];
-    assert!(rt; complex(alloc, &powers).err() == Some(PackFault::OutOfRange(4)));
-    let negative = [Point::Scaled(0), Point::Scaled(-1)];
-    assert!(rt; complex(alloc, &negative).err() == Some(PackFault::OutOfRange(2)));
-    let ends = [Point::Scaled(1 << 60), Point::Scaled(-(1 << 60))];
-    assert!(rt; complex(alloc, &ends).err() == Some(PackFault::OutOfRange(1)));
-    assert!(rt; spatial(alloc, &ends, 1).err() == Some(PackFault::DifferenceRange));
-    assert!(rt; spatial(alloc, &ends, 2).err() == Some(PackFault::DifferenceRange));
-    let falls = [Point::Scaled((1 << 31) - 1), Point::Scaled(-1)];
-    assert!(rt; spatial(alloc, &falls, 1).err() == Some(PackFault::DifferenceRange));
-}
-
-#[test]
-fn the_least_minimum(rt: HostRuntime) -> Result<(), Fail> {
-    let made = spatial(rt.alloc(), &points![0x7fff_ffff 0], 1)?;
-    assert!(rt; has_spatial(&made, front(49, 2, 3, 0), layout(0, 1, 0, 2), [1, 4]));
-    let data = b"\0\0\0\x0e\x07\x7f\xff\xff\xff\xff\xff\xff\xff\x04";
-    assert!(rt; has(&made, data));
-    Ok(())
-}
-
-#[test]
-fn columns_of_missing_points(rt: HostRuntime) -> Result<(), Fail> {
-    let made = complex(rt.alloc(), &[Point::Missing; 65])?;
-    assert!(rt; has_complex(&made, front(47, 65, 2, 1), layout(1, 2, 0, 64)));
-    assert!(rt; has(&made, &[0, 0, 0, 8, 7, 0xc0, 0x03, 0xf0]));
-    let made = spatial(rt.alloc(), &points![~], 2)?;
-    assert!(rt; has_spatial(&made, front(49, 1, 3, 2), layout(2, 1, 0, 1), [2, 1]));
-    assert!(rt; has(&made, &[0, 0, 0, 10, 7, 0, 0, 0, 0x80, 0x00]));
-    Ok(())
-}
-
-#[test]
-fn columns_of_one_value(rt: HostRuntime) -> Result<(), Fail> {
-    let made = complex(rt.alloc(), &[Point::Scaled(5); 65])?;
-    assert!(rt; has_complex(&made, front(47, 65, 2, 3), layout(0, 2, 0, 64)));
-    assert!(rt; has(&made, &[0, 0, 0, 8, 7, 0xb4, 0x03, 0xf0]));
-    let made = spatial(rt.alloc(), &[Point::Scaled(7); 3], 2)?;
-    assert!(rt; has_spatial(&made, front(49, 3, 3, 0), layout(0, 1, 0, 3), [2, 1]));
-    assert!(rt; has(&made, &[0, 0, 0, 9, 7, 7, 7, 0, 0x08]));
-    let made = spatial(rt.alloc(), &points![7], 2)?;
-    assert!(rt; has_spatial(&made, front(49, 1, 3, 0), layout(0, 1, 0, 1), [2, 1]));
-    assert!(rt; has(&made, &[0, 0, 0, 9, 7, 7, 0, 0, 0]));
     Ok(())
 }
