@@ -11,7 +11,8 @@ what can be set and may be missing, and those of edition 1 of the page are those
 causes and losses of PROFILE stand in GUIDE and in the man page. The statuses of README, of GUIDE and of the man page
 are those of chapter 9 of docs/PROFILE.md, with 11, 70 and 127. A shell completes names of files, odd ones too. Each
 link of a page leads to a page and heading, here and in what install.sh puts under PREFIX, and so does each path that
-the man page has. What does not hold is printed, and the end is status 1. Without `man`, or without terminals, what
+the man page has. No page has a word of the list OLD outside of what is printed (blocks and backquotes), and README has at
+most 130 lines of at most 60 words. What does not hold is printed, and the end is status 1. Without `man`, or without terminals, what
 needs them is left out, and said. The index of GUIDE leads to each of its chapters, and README to GUIDE."""
 import glob
 import os
@@ -47,6 +48,29 @@ PROFILE = {command: ["profile=open"] for command in [*PAST, "compare"]}
 COUNTING = ["README.md", "docs/GUIDE.md", "docs/PROFILE.md", "docs/GLOSSARY.md", "docs/GUARANTEES.md", "docs/DEFINITIONS.md"]
 NOT_PAST = {"check": "kept=pass", "compare": "refused=pass", "list": "refused=skip", "dump": "kept=copy", "values": "kept=copy", "coordinates": "kept=copy", "make": "refused=pass", "version": "refused=pass"}
 NOT_PROFILE = {**dict.fromkeys(PROFILE, "profile=stated"), "make": "profile=open", "version": "profile=open"}
+# Words that no page uses outside of what is printed, each with what is written in its place.
+OLD = {
+    r"kept": "not changed, preserved, held",
+    r"shelf|shelves": "files, or the trait `Shelf` in backquotes",
+    r"told|tells?": "said, printed, says",
+    r"heard|hearers?|deaf": "judged incrementally",
+    r"behind": "after",
+    r"besides?": "next to, together with, in addition to",
+    r"stands?(?! (for|by)\b)|stood(?! for\b)|standing(?! for\b)": "is, are",
+    r"no date and time": "not a valid date and time",
+    r"(there (is|was)|or|for) no memory|lack of memory|want of memory": "memory ran out",
+    r"goes on|go on|going on|gone past": "continues, carries on, skipped",
+    r"goes round|way eastward": "is global, eastward distance",
+    r"by turns": "alternately",
+    r"at hand": "available",
+    r"a face": "an interface",
+    r"bitmaps?": "bit map",
+    r"counterparts?": "the field with the same number",
+    r"greatest": "largest",
+    r"rows? (of Section|[HFSB]\d)|no row refuses|first (failing )?row that fails": "rule",
+    r"ours": "this project's",
+    r"stated profile": "default profile",
+}
 failed = []
 
 
@@ -150,6 +174,26 @@ def check_links(page):
     named = re.findall(r"PREFIX /?(\S+)", section(page, "FILES")) + re.findall(r"\$HOME/\.local/(\S+)", page)
     for place in named:
         hold(place.strip("/") in places | {os.path.dirname(place.strip("/")) for place in places}, f"place of the man page: {place}")
+
+
+def check_words():
+    """Each page has none of the words that are no longer used, and README is short."""
+    for name in [os.path.relpath(name, top) for folder in ("", "*/") for name in glob.glob(f"{top}/{folder}*.md")]:
+        text, *_ = read(name).partition("\n## Every name\n")
+        # The list of crates has the words of the crates.
+        text = re.sub(r"<!-- by docs/names.py -->.*?<!-- up to here -->", "", text, flags=re.S)
+        text = re.sub(r"^```.*?^```$", lambda block: "\n" * block.group().count("\n"), text, flags=re.M | re.S)
+        if name == "docs/DEFINITIONS.md":
+            text = re.sub(r"^\| [^|]* \|", "|", text, flags=re.M)
+        for number, line in enumerate(text.splitlines(), 1):
+            line = re.sub(r"`[^`]*`|\]\([^)]*\)", "`", line)
+            for old, new in OLD.items():
+                found = re.search(rf"(?<!\w)({old})(?!\w)", line)
+                hold(not found, f"{name}:{number}: '{found and found.group()}': write {new}")
+    lines = read("README.md").splitlines()
+    hold(len(lines) <= 130, f"README has {len(lines)} lines")
+    for number, line in enumerate(lines, 1):
+        hold(len(line.split()) <= 60, f"README.md:{number} has {len(line.split())} words")
 
 
 def check_index():
@@ -279,6 +323,7 @@ def main():
         hold(here == statuses, f"statuses of {name}: {sorted(here)}")
     check_links(page)
     check_index()
+    check_words()
     left_out = []
     try:
         for end in pty.openpty():

@@ -6,7 +6,8 @@
 
 Written are the last chapter of docs/DEFINITIONS.md, with every name that the definitions of the crates declare; the
 drawing and the list of the crates in docs/ARCHITECTURE.md, by crates.txt and by the first sentence of each crate; and
-the number of keys, in each page that says how many there are.
+the number of keys, in each page that says how many there are; and in docs/GUARANTEES.md how many lines of definitions the
+crates of each row of its table have, in hundreds.
 
 A name in the table of a chapter of docs/DEFINITIONS.md has to be declared by a crate of its heading, in the file of its
 row. In every page a name with `_` or with a capital inside, a crate and a file of a crate have to be somewhere in the
@@ -26,7 +27,7 @@ BEGIN, END = "<!-- by docs/names.py -->\n", "<!-- up to here -->\n"
 COUNTING = ["README.md", "docs/GUIDE.md", "docs/PROFILE.md", "docs/GLOSSARY.md", "docs/GUARANTEES.md", DEFINITIONS, "docs/FROM-ECCODES.md"]
 NAMING = ["README.md", "CONTRIBUTING.md", "docs/GUARANTEES.md", ARCHITECTURE, "docs/PROFILE.md", "docs/WORKED.md", "docs/GLOSSARY.md", "docs/LIBRARY.md", "docs/DECISIONS.md", DEFINITIONS]
 # Names of other programs.
-OTHERS = re.compile(r"grib_(ls|get|get_data|set|copy|filter|compare|dump|count)$|grid_\w+$|codes_\w+$|AEC_\w+$|code_table_[\w.]+$|flag_table_[\w.]+$|[a-z]+(_[a-z]+)*_template_\w+$")
+OTHERS = re.compile(r"what_is_shown$|grib_(ls|get|get_data|set|copy|filter|compare|dump|count)$|grid_\w+$|codes_\w+$|AEC_\w+$|code_table_[\w.]+$|flag_table_[\w.]+$|[a-z]+(_[a-z]+)*_template_\w+$")
 
 
 def read(name):
@@ -119,12 +120,33 @@ def key_numbers():
     return count, said.count("yes")
 
 
+def lines_of(crates):
+    return sum(read(os.path.relpath(file, top)).count("\n") for crate in crates for file in glob.glob(f"{top}/crates/{crate}/specs/*.antt"))
+
+
+def counted_lines(page):
+    """The page with the lines of definitions of each row of its table, and of all."""
+    named = []
+
+    def row(found):
+        crates = re.findall(r"`(\w+)`", found.group(2))
+        named.extend(crates)
+        return f"{found.group(1)}{found.group(2)}| {round(lines_of(crates or set(layers()) - set(named)), -2):,} |"
+
+    before, title, rest = page.partition("In what order to read the definitions, of which there are some ")
+    table, end, after = rest.partition("\n## ")
+    table = re.sub(r"^[\d,]+ lines", f"{round(lines_of(layers()), -2):,} lines", table)
+    table = re.sub(r"^(\| \d? ?\| )(`grib[^|]*|all others )\| [\d,]+ \|", row, table, flags=re.M)
+    return before + title + table + end + after
+
+
 def made():
     """The pages as they are to be."""
     pages = {name: read(name) for name in COUNTING + [ARCHITECTURE] if os.path.exists(f"{top}/{name}")}
     pages[DEFINITIONS] = pages[DEFINITIONS].partition(TITLE)[0].rstrip() + "\n\n" + every_name()
     before, _, rest = pages[ARCHITECTURE].partition(BEGIN)
     pages[ARCHITECTURE] = before + BEGIN + crate_list() + END + rest.partition(END)[2]
+    pages["docs/GUARANTEES.md"] = counted_lines(pages["docs/GUARANTEES.md"])
     keys, can_set = key_numbers()
     for name in COUNTING:
         if name in pages:
