@@ -29,7 +29,7 @@ top = os.path.dirname(os.path.dirname(os.path.abspath(__file__)))
 # For each command arguments that are valid.
 WORDS = {
     "check": [], "list": ["with=centre,Centre,at,octets", "names=/nonexistent/names"], "stats": [], "dump": ["decimals=2", "place=yes"], "values": ["as=f4"], "coordinates": [],
-    "filter": ["centre=98", "name=TMP,HGT", "names=/nonexistent/names"], "set": ["centre=98", "dates=valid"],
+    "filter": ["centre=98", "name=t,gh", "names=/nonexistent/names"], "set": ["centre=98", "dates=valid"],
     "split": ["out=/nonexistent/part", "editions=both"], "repack": ["to=3", "order=1"], "rescan": [], "crop": ["i0=0", "i1=0", "j0=0", "j1=0"],
     "migrate": ["params=/nonexistent/table", "surfaces=/nonexistent/surfaces", "local=ecmwf"],
     "demote": ["params=/nonexistent/table", "local=keep", "earth=any", "tables=any"],
@@ -190,6 +190,10 @@ def check_words():
             for old, new in OLD.items():
                 found = re.search(rf"(?<!\w)({old})(?!\w)", line)
                 hold(not found, f"{name}:{number}: '{found and found.group()}': write {new}")
+    said = re.sub(r"^\.(B|BR|BI|I|IR|IB|RB|RI) [^\n]*$|^\.nf$.*?^\.fi$|\\f[BI].*?\\fR", "", read("docs/grib.1"), flags=re.M | re.S)
+    for old, new in OLD.items():
+        found = re.search(rf"(?<!\w)({old})(?!\w).*", said)
+        hold(not found, f"docs/grib.1: '{found and found.group()}': write {new}")
     lines = read("README.md").splitlines()
     hold(len(lines) <= 130, f"README has {len(lines)} lines")
     for number, line in enumerate(lines, 1):
@@ -283,7 +287,7 @@ def main():
             names = {word.split("=")[0] + "=" for word in words + past + sum(ways, [])}
             told = {*commands, "commands", "refusals", "causes"} if command == "help" else set()
             hold(set(completed(f"grib {command} ")) == names | told, f"names of {command} in the completion")
-            shown = plain(section(page, "COMMANDS") + section(page, "GOING ON AFTER REFUSALS") + section(page, "ANY GRID, PRODUCT AND PACKING"))
+            shown = plain(section(page, "COMMANDS") + section(page, "CARRYING ON AFTER REFUSALS") + section(page, "ANY GRID, PRODUCT AND PACKING"))
             hold(all(name in shown for name in names), f"names of {command} in the page")
             for way in ways:
                 hold(has_reading(program, command, *past, *way), f"not in the program: {command} {' '.join(way)}")
@@ -313,7 +317,7 @@ def main():
         hold(has_reading(program, "set", f"{key}=1") == can, f"otherwise in the program: set {key}")
         hold(has_reading(program, "list", f"with={key}"), f"not in the program: list with={key}")
     hold(not has_reading(program, "filter", "Centre=98", "centre=98"), "read by the program: filter with keys of both editions")
-    hold(not has_reading(program, "filter", "name=TMP"), "read by the program: filter name= without names=")
+    hold(not has_reading(program, "filter", "name=t"), "read by the program: filter name= without names=")
 
     statuses = {int(number) for number in re.findall(r"^\.B (\d+)$", section(page, "EXIT STATUS"), re.M)}
     rows = {int(number) for number in re.findall(r"^\| \w+(?:\(i\))? \| (\d+) \|", re.search(r"^### Outcomes and statuses\n(.*?)^###", profile, re.M | re.S).group(1), re.M)}
