@@ -8,7 +8,7 @@ Each command, name and key of the page is valid in the program and stands in the
 others; so have `refused=`, `kept=` and `profile=`, each with the commands that take it. `help` of the program has a line on each
 command, and no others, and the page has the version. The keys of edition 2 of the page, of GUIDE and of PROFILE are the same, with
 what can be set and may be missing, and those of edition 1 of the page are those of the program, and each page that says how many keys there are has their number. The reasons,
-causes and losses of PROFILE stand in GUIDE and in the man page. The statuses of README, of GUIDE and of the man page
+causes and losses of PROFILE stand in GUIDE and in the man page. The statuses of README and of the man page
 are those of chapter 9 of docs/PROFILE.md, with 11, 70 and 127. A shell completes names of files, odd ones too. Each
 link of a page leads to a page and heading, here and in what install.sh puts under PREFIX, and so does each path that
 the man page has. No page has a word of the list OLD outside of what is printed (blocks and backquotes), and README has at
@@ -322,7 +322,7 @@ def main():
     statuses = {int(number) for number in re.findall(r"^\.B (\d+)$", section(page, "EXIT STATUS"), re.M)}
     rows = {int(number) for number in re.findall(r"^\| \w+(?:\(i\))? \| (\d+) \|", re.search(r"^### Outcomes and statuses\n(.*?)^###", profile, re.M | re.S).group(1), re.M)}
     hold(statuses == rows - {10} | {11, 70, 127}, f"statuses of the man page: {sorted(statuses)}, of PROFILE: {sorted(rows)}")
-    for name in ("README.md", "docs/GUIDE.md"):
+    for name in ("README.md",):
         here = {int(number) for number in re.findall(r"^\| (\d+) \| [^|]*\|(?:[^|]*\|)?$", read(name).split("| status | means |")[1].split("\n\n")[0], re.M)}
         hold(here == statuses, f"statuses of {name}: {sorted(here)}")
     check_links(page)
