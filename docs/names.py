@@ -77,6 +77,8 @@ def sentence(crate):
         if os.path.exists(f"{top}/crates/{crate}/src/{name}"):
             said = re.match(r"(?://!.*\n)+", read(f"crates/{crate}/src/{name}"))
             break
+    else:
+        sys.exit(f"crates.txt has {crate}, and crates/{crate}/src has no lib.rt and no main.rt")
     words = " ".join(line[3:].strip() for line in said.group().split("\n//!\n")[0].splitlines())
     words = re.sub(r" \([^()]*(WMO-No|CCSDS 121)[^()]*\)", "", words)
     return re.split(r"(?<=\.) (?=[A-Z`])", words)[0].removesuffix(".")
