@@ -74,7 +74,7 @@ files() {
 644 docs/WORKED.md share/doc/grib/docs/WORKED.md
 644 docs/GUARANTEES.md share/doc/grib/docs/GUARANTEES.md
 644 docs/MEASURING.md share/doc/grib/docs/MEASURING.md
-644 docs/HISTORY.md share/doc/grib/docs/HISTORY.md
+644 docs/FROM-ECCODES.md share/doc/grib/docs/FROM-ECCODES.md
 644 docs/LIBRARY.md share/doc/grib/docs/LIBRARY.md
 644 docs/pictures/sizes.svg share/doc/grib/docs/pictures/sizes.svg
 644 docs/pictures/field.png share/doc/grib/docs/pictures/field.png

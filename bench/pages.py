@@ -8,10 +8,11 @@ Each command, name and key of the page is valid in the program and stands in the
 others; so have `refused=`, `kept=` and `profile=`, each with the commands that take it. `help` of the program has a line on each
 command, and no others, and the page has the version. The keys of edition 2 of the page, of GUIDE and of PROFILE are the same, with
 what can be set and may be missing, and those of edition 1 of the page are those of the program, and each page that says how many keys there are has their number. The reasons,
-causes and losses of PROFILE stand in GUIDE and in the man page. The statuses of README, of GUIDE and of the man page
+causes and losses of PROFILE stand in GUIDE and in the man page. The statuses of README and of the man page
 are those of chapter 9 of docs/PROFILE.md, with 11, 70 and 127. A shell completes names of files, odd ones too. Each
 link of a page leads to a page and heading, here and in what install.sh puts under PREFIX, and so does each path that
-the man page has. What does not hold is printed, and the end is status 1. Without `man`, or without terminals, what
+the man page has. No page has a word of the list OLD outside of what is printed (blocks and backquotes), and README has at
+most 130 lines of at most 60 words. What does not hold is printed, and the end is status 1. Without `man`, or without terminals, what
 needs them is left out, and said. The index of GUIDE leads to each of its chapters, and README to GUIDE."""
 import glob
 import os
@@ -28,7 +29,7 @@ top = os.path.dirname(os.path.dirname(os.path.abspath(__file__)))
 # For each command arguments that are valid.
 WORDS = {
     "check": [], "list": ["with=centre,Centre,at,octets", "names=/nonexistent/names"], "stats": [], "dump": ["decimals=2", "place=yes"], "values": ["as=f4"], "coordinates": [],
-    "filter": ["centre=98", "name=TMP,HGT", "names=/nonexistent/names"], "set": ["centre=98", "dates=valid"],
+    "filter": ["centre=98", "name=t,gh", "names=/nonexistent/names"], "set": ["centre=98", "dates=valid"],
     "split": ["out=/nonexistent/part", "editions=both"], "repack": ["to=3", "order=1"], "rescan": [], "crop": ["i0=0", "i1=0", "j0=0", "j1=0"],
     "migrate": ["params=/nonexistent/table", "surfaces=/nonexistent/surfaces", "local=ecmwf"],
     "demote": ["params=/nonexistent/table", "local=keep", "earth=any", "tables=any"],
@@ -47,6 +48,29 @@ PROFILE = {command: ["profile=open"] for command in [*PAST, "compare"]}
 COUNTING = ["README.md", "docs/GUIDE.md", "docs/PROFILE.md", "docs/GLOSSARY.md", "docs/GUARANTEES.md", "docs/DEFINITIONS.md"]
 NOT_PAST = {"check": "kept=pass", "compare": "refused=pass", "list": "refused=skip", "dump": "kept=copy", "values": "kept=copy", "coordinates": "kept=copy", "make": "refused=pass", "version": "refused=pass"}
 NOT_PROFILE = {**dict.fromkeys(PROFILE, "profile=stated"), "make": "profile=open", "version": "profile=open"}
+# Words that no page uses outside of what is printed, each with what is written in its place.
+OLD = {
+    r"kept": "not changed, preserved, held",
+    r"shelf|shelves": "files, or the trait `Shelf` in backquotes",
+    r"told|tells?": "said, printed, says",
+    r"heard|hearers?|deaf": "judged incrementally",
+    r"behind": "after",
+    r"besides?": "next to, together with, in addition to",
+    r"stands?(?! (for|by)\b)|stood(?! for\b)|standing(?! for\b)": "is, are",
+    r"no date and time": "not a valid date and time",
+    r"(there (is|was)|or|for) no memory|lack of memory|want of memory": "memory ran out",
+    r"goes on|go on|going on|gone past": "continues, carries on, skipped",
+    r"goes round|way eastward": "is global, eastward distance",
+    r"by turns": "alternately",
+    r"at hand": "available",
+    r"a face": "an interface",
+    r"bitmaps?": "bit map",
+    r"counterparts?": "the field with the same number",
+    r"greatest": "largest",
+    r"rows? (of Section|[HFSB]\d)|no row refuses|first (failing )?row that fails": "rule",
+    r"ours": "this project's",
+    r"stated profile": "default profile",
+}
 failed = []
 
 
@@ -152,6 +176,30 @@ def check_links(page):
         hold(place.strip("/") in places | {os.path.dirname(place.strip("/")) for place in places}, f"place of the man page: {place}")
 
 
+def check_words():
+    """Each page has none of the words that are no longer used, and README is short."""
+    for name in [os.path.relpath(name, top) for folder in ("", "*/") for name in glob.glob(f"{top}/{folder}*.md")]:
+        text, *_ = read(name).partition("\n## Every name\n")
+        # The list of crates has the words of the crates.
+        text = re.sub(r"<!-- by docs/names.py -->.*?<!-- up to here -->", "", text, flags=re.S)
+        text = re.sub(r"^```.*?^```$", lambda block: "\n" * block.group().count("\n"), text, flags=re.M | re.S)
+        if name == "docs/DEFINITIONS.md":
+            text = re.sub(r"^\| [^|]* \|", "|", text, flags=re.M)
+        for number, line in enumerate(text.splitlines(), 1):
+            line = re.sub(r"`[^`]*`|\]\([^)]*\)", "`", line)
+            for old, new in OLD.items():
+                found = re.search(rf"(?<!\w)({old})(?!\w)", line)
+                hold(not found, f"{name}:{number}: '{found and found.group()}': write {new}")
+    said = re.sub(r"^\.(B|BR|BI|I|IR|IB|RB|RI) [^\n]*$|^\.nf$.*?^\.fi$|\\f[BI].*?\\fR", "", read("docs/grib.1"), flags=re.M | re.S)
+    for old, new in OLD.items():
+        found = re.search(rf"(?<!\w)({old})(?!\w).*", said)
+        hold(not found, f"docs/grib.1: '{found and found.group()}': write {new}")
+    lines = read("README.md").splitlines()
+    hold(len(lines) <= 130, f"README has {len(lines)} lines")
+    for number, line in enumerate(lines, 1):
+        hold(len(line.split()) <= 60, f"README.md:{number} has {len(line.split())} words")
+
+
 def check_index():
     """Each chapter of GUIDE is led to by the table at its head, and GUIDE by README: two steps to any task."""
     index, *_ = read("docs/GUIDE.md").partition("\n## ")
@@ -239,7 +287,7 @@ def main():
             names = {word.split("=")[0] + "=" for word in words + past + sum(ways, [])}
             told = {*commands, "commands", "refusals", "causes"} if command == "help" else set()
             hold(set(completed(f"grib {command} ")) == names | told, f"names of {command} in the completion")
-            shown = plain(section(page, "COMMANDS") + section(page, "GOING ON AFTER REFUSALS") + section(page, "ANY GRID, PRODUCT AND PACKING"))
+            shown = plain(section(page, "COMMANDS") + section(page, "CARRYING ON AFTER REFUSALS") + section(page, "ANY GRID, PRODUCT AND PACKING"))
             hold(all(name in shown for name in names), f"names of {command} in the page")
             for way in ways:
                 hold(has_reading(program, command, *past, *way), f"not in the program: {command} {' '.join(way)}")
@@ -269,16 +317,17 @@ def main():
         hold(has_reading(program, "set", f"{key}=1") == can, f"otherwise in the program: set {key}")
         hold(has_reading(program, "list", f"with={key}"), f"not in the program: list with={key}")
     hold(not has_reading(program, "filter", "Centre=98", "centre=98"), "read by the program: filter with keys of both editions")
-    hold(not has_reading(program, "filter", "name=TMP"), "read by the program: filter name= without names=")
+    hold(not has_reading(program, "filter", "name=t"), "read by the program: filter name= without names=")
 
     statuses = {int(number) for number in re.findall(r"^\.B (\d+)$", section(page, "EXIT STATUS"), re.M)}
     rows = {int(number) for number in re.findall(r"^\| \w+(?:\(i\))? \| (\d+) \|", re.search(r"^### Outcomes and statuses\n(.*?)^###", profile, re.M | re.S).group(1), re.M)}
     hold(statuses == rows - {10} | {11, 70, 127}, f"statuses of the man page: {sorted(statuses)}, of PROFILE: {sorted(rows)}")
-    for name in ("README.md", "docs/GUIDE.md"):
+    for name in ("README.md",):
         here = {int(number) for number in re.findall(r"^\| (\d+) \| [^|]*\|(?:[^|]*\|)?$", read(name).split("| status | means |")[1].split("\n\n")[0], re.M)}
         hold(here == statuses, f"statuses of {name}: {sorted(here)}")
     check_links(page)
     check_index()
+    check_words()
     left_out = []
     try:
         for end in pty.openpty():

@@ -1,8 +1,8 @@
 //! `values` where a write fails.
 
+use crate::in_memory::{CALM, Failing, run_over};
 use grib_engine::Outcome;
 use grib_samples::{PLAIN, between};
-use grib_test_runs::{CALM, Failing, run_over};
 use std::alloc::{AllocError, Global};
 use std::test::Fail;
 

@@ -1,10 +1,10 @@
 //! How much of the input is taken by messages that are judged as they come.
 
+use crate::in_memory::{CALM, Failing, run_over};
 use grib_base::{Fault, Reason, Refusal};
 use grib_engine::Outcome;
 use grib_io::Source;
 use grib_samples::{PLAIN, edited};
-use grib_test_runs::{CALM, Failing, run_over};
 use std::alloc::{AllocError, Global};
 use std::test::Fail;
 

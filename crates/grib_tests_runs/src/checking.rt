@@ -1,10 +1,10 @@
 //! `check`, and `dump` of many points, where a call of a device fails.
 
+use crate::in_memory::{CALM, Failing, run_over};
 use grib_base::{Fault, Reason, Refusal};
 use grib_engine::Outcome;
 use grib_io::{ReadSource, Source};
 use grib_samples::{PLAIN, edited};
-use grib_test_runs::{CALM, Failing, run_over};
 use std::alloc::{AllocError, Global};
 use std::test::Fail;
 

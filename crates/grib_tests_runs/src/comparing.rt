@@ -1,11 +1,11 @@
 //! `compare` with files that are refused, of which no input is taken, and with a shelf that fails.
 
+use crate::in_memory::{CALM, Failing, Ran, run_over, run_with};
 use grib_base::{Fault, Reason, Refusal};
 use grib_engine::Outcome;
 use grib_io::MemoryShelf;
 use grib_samples::{PLAIN, between};
 use grib_stream::FileRefusal;
-use grib_test_runs::{CALM, Failing, Ran, run_over, run_with};
 use std::alloc::{AllocError, Global};
 use std::test::Fail;
 

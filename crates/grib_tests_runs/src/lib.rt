@@ -13,6 +13,8 @@ mod comparing;
 #[cfg(test)]
 mod engine;
 #[cfg(test)]
+mod in_memory;
+#[cfg(test)]
 mod memory;
 #[cfg(test)]
 mod migrating;

@@ -1,8 +1,8 @@
 //! `migrate` where a call of a device fails.
 
+use crate::in_memory::{CALM, Failing, Ran, run_with_table};
 use grib_engine::Outcome;
 use grib_samples::{FIRST_EDITION, MIGRATED, between};
-use grib_test_runs::{CALM, Failing, Ran, run_with_table};
 use std::alloc::{AllocError, Global};
 use std::test::Fail;
 

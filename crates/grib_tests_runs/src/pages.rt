@@ -1,8 +1,8 @@
 //! Pages that the program prints without an input.
 
+use crate::in_memory::{CALM, Failing, run_over};
 use grib_engine::Outcome;
 use grib_samples::PLAIN;
-use grib_test_runs::{CALM, Failing, run_over};
 use std::test::Fail;
 
 #[test]

@@ -1,7 +1,7 @@
 //! `repack` and `make` where a call of a device fails.
 
+use crate::in_memory::{CALM, Failing, run_over};
 use grib_engine::Outcome;
-use grib_test_runs::{CALM, Failing, run_over};
 use std::alloc::{AllocError, Global};
 use std::test::Fail;
 

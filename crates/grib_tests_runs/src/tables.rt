@@ -1,10 +1,10 @@
 //! Tables of `migrate`: of those that are refused no input is taken; and a shelf that fails.
 
+use crate::in_memory::{CALM, Failing, Ran, run_with};
 use grib_engine::Outcome;
 use grib_io::{MemoryShelf, MemorySource, Source};
 use grib_reasons::TableRefusal;
 use grib_samples::{FIRST_EDITION, MIGRATED, TABLE};
-use grib_test_runs::{CALM, Failing, Ran, run_with};
 use std::alloc::{AllocError, Global};
 use std::test::Fail;
 

@@ -1,5 +1,4 @@
 //! Runs of the command in memory: arguments, octets that come and go in pieces, and calls that fail.
-#![tactic(auto)]
 
 ghost use Rattle.std.specs.Prelude.{◌≤◌};
 
