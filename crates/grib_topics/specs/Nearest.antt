@@ -4,7 +4,7 @@ use Rattle.std.specs.List.{fold}
 use Rattle.std.specs.Str.{chars}
 use Rattle.std.specs.Char.{to_ascii_lowercase}
 use Rattle.strsim.specs.Edits.{levenshtein_row}
-use Rattle.grib_topics.specs.Elsewhere.{keys_for}
+use Rattle.grib_topics.specs.Elsewhere.{command_for, keys_for}
 use Rattle.grib_topics.specs.Topics as topics
 use Rattle.grib_topics.specs.Topics.{command_texts, key_texts, first_key_texts}
 
@@ -51,5 +51,10 @@ or_nearest keys word = cond (length keys == 0) (nearest_name word) keys
 unfoldable pub nearest_key : List ℕ → List ℕ
 nearest_key word = or_nearest (keys_for word) word
 
+-- the name of the command that is nearest to a word
+unfoldable pub nearest_name_of_command : List ℕ → List ℕ
+nearest_name_of_command word = (nearest word none command_texts).name
+
+-- the command that does what other programs have by this name, or where there is none, the one whose name is nearest
 unfoldable pub nearest_command : List ℕ → List ℕ
-nearest_command word = (nearest word none command_texts).name
+nearest_command word = cond (length (command_for word) == 0) (nearest_name_of_command word) (command_for word)

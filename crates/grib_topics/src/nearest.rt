@@ -3,7 +3,7 @@
 ghost use Rattle.std.specs.Prelude.{◌≡◌, IfOk, map};
 ghost use Rattle.grib_topics.specs.Nearest as near;
 
-use crate::elsewhere::keys_for;
+use crate::elsewhere::{command_for, keys_for};
 use crate::table::{COMMANDS, FIRST_KEYS, KEYS};
 use std::alloc::{AllocError, Global};
 use strsim::levenshtein;
@@ -45,11 +45,24 @@ fn nearest_name(alloc: Global, word: &str) -> Result<&'static str, AllocError>
     Ok(best.name)
 }
 
-/// The name of the command that is nearest to a word. It is empty where none is near. The only error is that there is
-/// no memory.
+/// The command that is nearest to a word: the one that does what other programs have by this name, or else the one whose
+/// name is nearest. It is empty where none is near. The only error is that there is no memory.
 #[tactic(auto, unfolding(crate::specs::Nearest::nearest_command))]
 pub fn nearest_command(alloc: Global, word: &str) -> Result<&'static str, AllocError>
     ensures { IfOk result (λ name. name.now ≡ near.nearest_command word.now) }
+{
+    let command = command_for(word);
+    if command.is_empty() {
+        nearest_name_of_command(alloc, word)
+    } else {
+        Ok(command)
+    }
+}
+
+/// The name of the command that is nearest to a word.
+#[tactic(auto, unfolding(crate::specs::Nearest::nearest_name_of_command))]
+fn nearest_name_of_command(alloc: Global, word: &str) -> Result<&'static str, AllocError>
+    ensures { IfOk result (λ name. name.now ≡ near.nearest_name_of_command word.now) }
 {
     let best = nearest(alloc, word, NONE, &COMMANDS)?;
     Ok(best.name)
